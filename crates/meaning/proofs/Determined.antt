@@ -14,7 +14,7 @@ use Rattle.meaning.specs.States.{State, States, Tables, More-than-64}
 use Rattle.meaning.specs.declared.Piece.{Piece}
 use Rattle.meaning.specs.Pieces.{Reading}
 use Rattle.meaning.specs.Doers.{Rule}
-use Rattle.meaning.specs.Runs.{Refusal, Call, Answer, Account, Means, Mean, fresh, Plate, Taken, eight, size, fault, clash, added, Built, empty, large, made, Plays, Refuses, unbuilt, long, Step, takes, strikes-none, strikes, builds, refuses-read, reads, refuses-play, plays, Called, away, heard, Run, opened, then, Kept}
+use Rattle.meaning.specs.Runs.{Refusal, Call, Answer, Account, Means, Mean, fresh, Plate, Taken, eight, size, fault, clash, added, Built, empty, large, made, Plays, Refuses, unbuilt, long, Struck, none-stands, struck, Listed, refuses, read-out, Step, takes, strikes, builds, reads, refuses-play, plays, Called, away, heard, Run, opened, then, Kept}
 use Rattle.meaning.specs.Asked.{Asked, gathered, Reply, told, Ran}
 use Rattle.meaning.proofs.Numbers.{one-complete, few-states}
 use Rattle.meaning.proofs.Cutting.{one-reading}
@@ -106,23 +106,29 @@ module _ (count : ℕ) (a : Account) where
   no-refusal (unbuilt h) k m = both-ways (a .built) h k
   no-refusal (long h m) k n = omega arith
 
+  pub one-struck : {r r′ : Answer} {b b′ : Account} → Struck a r b → Struck a r′ b′ → (r ≡ r′) × (b ≡ b′)
+  one-struck (none-stands h) (none-stands k) = (refl, refl)
+  one-struck (none-stands h) (struck ts t k) = absurd (omega (arith, length-append ts (t ∷ []), ap length (sym h ∙ k)))
+  one-struck (struck ts t h) (none-stands k) = absurd (omega (arith, length-append ts (t ∷ []), ap length (sym k ∙ h)))
+  one-struck (struck ts t h) (struck ts′ t′ k) =
+      let (e, f) = same-from-push ts ts′ t t′ (sym h ∙ k) in
+      (cc, cc)
+
+  pub one-listed : {extent : List ℕ} {list : List Piece} {r r′ : Answer} → Listed a extent list r → Listed a extent list r′ → r ≡ r′
+  one-listed (refuses h) (refuses k) = let e = one-refuses h k in cc
+  one-listed (refuses h) (read-out ls k m n x) = absurd (no-refusal h k m)
+  one-listed (read-out ls h m n x) (refuses k) = absurd (no-refusal k h m)
+  one-listed {extent = extent} {list = list} (read-out {pieces = ps} {place = s} {why = v} ls h m n x) (read-out {pieces = qs} {place = t} {why = w} ms h′ m′ n′ x′) =
+      let e = one-mean (a .texts) ms ls n′ n in
+      let (f, g, i) = one-reading ls extent (length list) ps qs s t v w x (subst (λ ys. Reading ys extent (length list) qs t w) e x′) in
+      cc
+
   module _ {S : Type 0} (rule : Rule S) (first : S) where
     pub one-step : {c : Call} {r r′ : Answer} {b b′ : Account} → Step count rule first a c r b → Step count rule first a c r′ b′ → (r ≡ r′) × (b ≡ b′)
     one-step (takes h) (takes k) = one-taken h k
-    one-step (strikes-none h) (strikes-none k) = (refl, refl)
-    one-step (strikes-none h) (strikes ts t k) = absurd (omega (arith, length-append ts (t ∷ []), ap length (sym h ∙ k)))
-    one-step (strikes ts t h) (strikes-none k) = absurd (omega (arith, length-append ts (t ∷ []), ap length (sym k ∙ h)))
-    one-step (strikes ts t h) (strikes ts′ t′ k) =
-        let (e, f) = same-from-push ts ts′ t t′ (sym h ∙ k) in
-        (cc, cc)
+    one-step (strikes h) (strikes k) = one-struck h k
     one-step (builds h) (builds k) = one-built h k
-    one-step (refuses-read h) (refuses-read k) = (let e = one-refuses h k in cc, refl)
-    one-step (refuses-read h) (reads ls k m n x) = absurd (no-refusal h k m)
-    one-step (reads ls h m n x) (refuses-read k) = absurd (no-refusal k h m)
-    one-step (reads {extent = extent} {list = list} {pieces = ps} {place = s} {why = v} ls h m n x) (reads {pieces = qs} {place = t} {why = w} ms h′ m′ n′ x′) =
-        let e = one-mean (a .texts) ms ls n′ n in
-        let (f, g, i) = one-reading ls extent (length list) ps qs s t v w x (subst (λ ys. Reading ys extent (length list) qs t w) e x′) in
-        (cc, refl)
+    one-step (reads h) (reads k) = (one-listed h k, refl)
     one-step (refuses-play h) (refuses-play k) = (ap Answer.refused (one-refuses h k), refl)
     one-step (refuses-play h) (plays ls k m n x p) = absurd (no-refusal h k m)
     one-step (plays ls h m n x p) (refuses-play k) = absurd (no-refusal k h m)

@@ -9,7 +9,8 @@ use native.Mathlib.Omega.{arith}
 use lib.Dec.{leb}
 use lib.ListN.{length}
 use Rattle.std.proofs.shelf.Tests.{false≢true, and-parts, and-from, leb-true, le-leb}
-use Rattle.meaning.specs.Words.{Symbol, Expr, sym, none, star, seq, alt, Forms, one, more, Word, all-joined, Each, Of, OfSeq, OfAlt}
+use Rattle.meaning.specs.declared.Symbol.{Symbol}
+use Rattle.meaning.specs.Words.{Expr, sym, none, star, seq, alt, Forms, one, more, Word, all-joined, Each, Of, OfSeq, OfAlt}
 use Rattle.meaning.specs.Positions.{symbols, list-symbols, holds}
 use Rattle.meaning.proofs.Masks.{in-zero, in-one, one-in}
 use Rattle.meaning.proofs.Walks.{Local, Walk, Parts, no-part, part}

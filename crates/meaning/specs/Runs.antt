@@ -107,6 +107,11 @@ pub data Taken (count : ℕ) (a : Account) (t : List ℕ) : Answer → Account �
   clash : {l : Line} {p q : ℕ} → length (a .texts) < most-lines → 0 < length t → length t ≤ most-bytes → ((n k : ℕ) → Fault count t n k → ⊥) → Means t l → Clash (l .expr) → First-clash l p q → Taken count a t (refused (record { number = 6; layer = 2; one = p; two = q })) a
   added : {l : Line} → length (a .texts) < most-lines → 0 < length t → length t ≤ most-bytes → ((n k : ℕ) → Fault count t n k → ⊥) → Means t l → (Clash (l .expr) → ⊥) → Taken count a t (numbered (length (a .texts))) (with-lines a (a .texts ++ t ∷ []))
 
+-- what strike does
+pub data Struck (a : Account) : Answer → Account → Type 0 where
+  none-stands : a .texts ≡ [] → Struck a (refused (plain 22 3)) a
+  struck : (ts : List (List ℕ)) (t : List ℕ) → a .texts ≡ ts ++ t ∷ [] → Struck a (numbered (length ts)) (with-lines a ts)
+
 -- what build does
 pub data Built (count : ℕ) (a : Account) : Answer → Account → Type 0 where
   empty : a .texts ≡ [] → Built count a (refused (plain 22 3)) a
@@ -125,15 +130,18 @@ pub data Refuses (a : Account) (extent : List ℕ) : Refusal → Type 0 where
   unbuilt : a .built ≡ false → Refuses a extent (plain 24 3)
   long : a .built ≡ true → longest-extent < length extent → Refuses a extent (plain 8 4)
 
+-- what read does with its list
+pub data Listed (a : Account) (extent : List ℕ) (list : List Piece) : Answer → Type 0 where
+  refuses : {f : Refusal} → Refuses a extent f → Listed a extent list (unread list f)
+  read-out : {pieces : List Piece} {place why : ℕ} (ls : List Line) → a .built ≡ true → length extent ≤ longest-extent → Mean (a .texts) ls → Reading ls extent (length list) pieces place why → Listed a extent list (listed (pieces ++ drop (length pieces) list) (length pieces) place why)
+
 module _ (count : ℕ) {S : Type 0} (rule : Rule S) (first : S) where
   -- what a call does on a plate that is open for its alphabet
   pub data Step (a : Account) : Call → Answer → Account → Type 0 where
     takes : {t : List ℕ} {r : Answer} {b : Account} → Taken count a t r b → Step a (take-line t) r b
-    strikes-none : a .texts ≡ [] → Step a strike-line (refused (plain 22 3)) a
-    strikes : (ts : List (List ℕ)) (t : List ℕ) → a .texts ≡ ts ++ t ∷ [] → Step a strike-line (numbered (length ts)) (with-lines a ts)
+    strikes : {r : Answer} {b : Account} → Struck a r b → Step a strike-line r b
     builds : {r : Answer} {b : Account} → Built count a r b → Step a build-plate r b
-    refuses-read : {extent : List ℕ} {list : List Piece} {f : Refusal} → Refuses a extent f → Step a (read-extent extent list) (unread list f) a
-    reads : {extent : List ℕ} {list pieces : List Piece} {place why : ℕ} (ls : List Line) → a .built ≡ true → length extent ≤ longest-extent → Mean (a .texts) ls → Reading ls extent (length list) pieces place why → Step a (read-extent extent list) (listed (pieces ++ drop (length pieces) list) (length pieces) place why) a
+    reads : {extent : List ℕ} {list : List Piece} {r : Answer} → Listed a extent list r → Step a (read-extent extent list) r a
     refuses-play : {extent : List ℕ} {f : Refusal} → Refuses a extent f → Step a (play-extent extent) (refused f) a
     plays : {extent : List ℕ} (ls : List Line) {gs : List Given} {s t : S} {pieces place codes why : ℕ} → a .built ≡ true → length extent ≤ longest-extent → Mean (a .texts) ls → Leads rule first (a .history) s → Plays rule ls extent 0 s gs pieces place codes why t → Step a (play-extent extent) (played pieces place codes why) (record { texts = a .texts; built = a .built; history = a .history ++ gs; moves = a .moves; sets = a .sets })
 

@@ -4,12 +4,7 @@ use mathlib.Core.List.{List, [], _∷_, _++_, map}
 use mathlib.Core.Logic.{_⊎_}
 use Prim.Native.Nat.{ℕ, _+_, _<_, _≤_}
 use lib.ListN.{length, take, getD}
-
--- a symbol, by its range of classes and its action code
-pub record Symbol : Type 0 where
-  pub low : ℕ
-  pub high : ℕ
-  pub code : ℕ
+use Rattle.meaning.specs.declared.Symbol.{Symbol}
 
 mutual
   pub data Expr : Type 0 where

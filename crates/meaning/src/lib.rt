@@ -5,6 +5,14 @@ ghost use Rattle.meaning.specs.ReadLaws.{Reading-law, Piece-law, Play-law};
 ghost use Rattle.meaning.specs.RunLaws.{Meaning-law, Refusal-law, Shut-law, Run-law, Test-law};
 ghost use Rattle.meaning.specs.Alphabets.{Piece-below};
 
+// A symbol of a line: the classes from `low` to `high`, and the action code that goes with each.
+#[derive(Clone, Copy)]
+pub struct Symbol {
+    pub low: u16,
+    pub high: u16,
+    pub code: u16,
+}
+
 // A piece of an extent: the number of the line that it is a word of, its place and its length.
 #[derive(Clone, Copy)]
 pub struct Piece {

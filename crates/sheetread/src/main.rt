@@ -1,0 +1,121 @@
+// Reads a sheet and an extent from standard input, and prints how the sheet's lines cut the extent and which codes each piece carries.
+use doers::Tape;
+use doers::TapeDoer;
+use meaning::Piece;
+use runs::Answer;
+use runs::Call;
+use runs::run;
+use sheet::Bytes;
+use sheet::LONGEST_EXTENT;
+use sheet::MOST_CLASSES;
+use sheet::MOST_LINES;
+use sheet::MOST_STATES;
+use std::alloc::AllocError;
+use std::alloc::Global;
+use std::io;
+use std::io::Read;
+
+const MOST_INPUT: usize = 60_000;
+const LIST: usize = 2_048;
+// the codes of the listed pieces: a piece has two more than it has symbols
+const TAPE: usize = LONGEST_EXTENT + 2 * LIST;
+
+// At most the first 60,000 bytes of standard input.
+fn input(rt: &LibcRuntime) -> io::Result<Vec<u8>> {
+    let mut bytes = vec![in rt.alloc(); 0; MOST_INPUT]?;
+    let mut stdin = rt.stdin();
+    let mut len = 0;
+    for _ in 0..MOST_INPUT {
+        if len >= bytes.len() {
+            break;
+        }
+        let n = stdin.read(&mut bytes[len..])?;
+        if n == 0 {
+            break;
+        }
+        len += n;
+    }
+    bytes.truncate(len);
+    Ok(bytes)
+}
+
+// Where the line that begins at `start` ends: at its byte 10, or at the input's end.
+fn line_end(input: &[u8], start: usize) -> usize {
+    for at in start..input.len() {
+        if input[at] == b'\n' {
+            return at;
+        }
+    }
+    input.len()
+}
+
+// The calls for a sheet and its extent: each line is taken, the plate is built, and the extent is read and played.
+fn calls(heap: Global, input: &[u8]) -> Result<Vec<Call<'_, u8>>, AllocError> {
+    let mut calls = Vec::new(heap);
+    let mut start = 0;
+    for _ in 0..MOST_INPUT {
+        let end = line_end(input, start);
+        if end == start {
+            break;
+        }
+        calls.push(Call::Take(&input[start..end]))?;
+        start = if end < input.len() { end + 1 } else { end };
+    }
+    let extent = if start < input.len() { &input[start + 1..] } else { &input[input.len()..] };
+    calls.push(Call::Build)?;
+    calls.push(Call::Read(extent, LIST))?;
+    calls.push(Call::Play(extent))?;
+    Ok(calls)
+}
+
+// One line for each piece, its codes from the tape.
+fn print_pieces(rt: &LibcRuntime, pieces: &[Piece], tape: &[u16]) -> io::Result<()> {
+    let mut at = 0;
+    for piece in pieces {
+        let mut text = format!(rt.alloc(), "piece {} {} {}", piece.line, piece.place, piece.len)?;
+        for _ in 0..piece.len + 2 {
+            if at < tape.len() {
+                text.push_str(format!(rt.alloc(), " {}", tape[at])?.as_str())?;
+                at += 1;
+            }
+        }
+        println!(rt, "{text}")?;
+    }
+    Ok(())
+}
+
+// The answers up to the first refusal, or the pieces and where they end.
+fn print_answers(rt: &LibcRuntime, answers: &[Answer], list: &[Piece], tape: &[u16]) -> io::Result<()> {
+    for (taken, answer) in answers.iter().enumerate() {
+        match *answer {
+            Answer::Refused(refusal) => {
+                let (one, two) = refusal.details();
+                let lines = if taken < MOST_LINES { taken } else { MOST_LINES };
+                return println!(rt, "refused {lines} {} {} {one} {two}", refusal.number(), refusal.layer());
+            }
+            Answer::Number(_) => {}
+            Answer::Read(pieces, place, why) => {
+                if pieces <= list.len() {
+                    print_pieces(rt, &list[0..pieces], tape)?;
+                }
+                return println!(rt, "end {place} {}", why.number());
+            }
+            Answer::Played(..) => {}
+        }
+    }
+    Ok(())
+}
+
+fn main(rt: LibcRuntime) -> io::Result<()> {
+    let heap = rt.alloc();
+    let input = input(&rt)?;
+    let calls = calls(heap, &input)?;
+    let mut moves = vec![in heap; 0u16; MOST_STATES * MOST_CLASSES]?;
+    let mut sets = vec![in heap; 0u64; MOST_STATES * MOST_LINES]?;
+    let mut list = vec![in heap; Piece { line: 0, place: 0, len: 0 }; LIST]?;
+    let mut answers = vec![in heap; Answer::Number(0); calls.len()]?;
+    let mut cells = vec![in heap; 0u16; TAPE]?;
+    let mut tape = Tape::new(&mut cells);
+    run(&mut moves, &mut sets, &mut tape, &calls, &mut list, &mut answers);
+    print_answers(&rt, &answers, &list, &cells)
+}
