@@ -14,7 +14,7 @@ use Rattle.meaning.specs.States.{State, States, Tables, More-than-64}
 use Rattle.meaning.specs.declared.Piece.{Piece}
 use Rattle.meaning.specs.Pieces.{Reading}
 use Rattle.meaning.specs.Doers.{Rule}
-use Rattle.meaning.specs.Runs.{Refusal, Call, Answer, Account, Means, Mean, fresh, Plate, Taken, eight, size, fault, clash, added, Built, empty, large, made, Plays, Refuses, unbuilt, long, Struck, none-stands, struck, Listed, refuses, read-out, Step, takes, strikes, builds, reads, refuses-play, plays, Called, away, heard, Run, opened, then, Kept}
+use Rattle.meaning.specs.Runs.{Refusal, Call, Answer, Account, Means, Mean, fresh, Plate, Text-refused, size, fault, clash, Text-accepted, Taken, eight, turned-down, added, Built, empty, large, made, Plays, Refuses, unbuilt, long, Struck, none-stands, struck, Listed, refuses, read-out, Step, takes, strikes, builds, reads, refuses-play, plays, Called, away, heard, Run, opened, then, Kept}
 use Rattle.meaning.specs.Asked.{Asked, gathered, Reply, told, Ran}
 use Rattle.meaning.proofs.Numbers.{one-complete, few-states}
 use Rattle.meaning.proofs.Cutting.{one-reading}
@@ -42,36 +42,36 @@ one-mean (t ∷ ts) (l ∷ ls) [] h k = absurd k
 one-mean (t ∷ ts) (l ∷ ls) (m ∷ ms) h k = ap₂ _∷_ (one-line t l m (h .0) (k .0)) (one-mean ts ls ms (h .1) (k .1))
 
 module _ (count : ℕ) (a : Account) where
+  one-refused : {t : List ℕ} {f g : Refusal} → Text-refused count t f → Text-refused count t g → f ≡ g
+  one-refused (size h) (size k) = refl
+  one-refused (size h) (fault n o f) = absurd (omega arith)
+  one-refused (size h) (clash n o f m x y) = absurd (omega arith)
+  one-refused (fault i j e) (size k) = absurd (omega arith)
+  one-refused {t = t} (fault {n = n} {k = k} i j e) (fault {n = n′} {k = k′} y z f) =
+      let (u, v) = one-fault count t n n′ k k′ e f in
+      cc
+  one-refused (fault {n = u} {k = v} i j e) (clash n o f m x y) = absurd (f u v e)
+  one-refused (clash i j e m x y) (size k) = absurd (omega arith)
+  one-refused (clash i j e m x y) (fault {n = u} {k = v} n o f) = absurd (e u v f)
+  one-refused {t = t} (clash {l = l} {p = p} {q = q} i j e m x y) (clash {l = l′} {p = p′} {q = q′} n o f m′ x′ y′) =
+      let (u, v) = one-first-clash l p q p′ q′ y (subst (λ w. First-clash w p′ q′) (sym (one-line t l l′ m m′)) y′) in
+      cc
+
+  not-refused : {t : List ℕ} {f : Refusal} → Text-refused count t f → Text-accepted count t → ⊥
+  not-refused (size h) k = omega (arith, k .some, k .short)
+  not-refused (fault {n = u} {k = v} i j e) k = k .faultless u v e
+  not-refused {t = t} (clash {l = l} i j e m x y) k = k .clear (subst (λ w. Clash (w .expr)) (one-line t l (k .line) m (k .means)) x)
+
   one-taken : {t : List ℕ} {r r′ : Answer} {b b′ : Account} → Taken count a t r b → Taken count a t r′ b′ → (r ≡ r′) × (b ≡ b′)
   one-taken (eight h) (eight k) = (refl, refl)
-  one-taken (eight h) (size k n) = absurd (omega arith)
-  one-taken (eight h) (fault k n o f) = absurd (omega arith)
-  one-taken (eight h) (clash k n o f m x y) = absurd (omega arith)
-  one-taken (eight h) (added k n o f m x) = absurd (omega arith)
-  one-taken (size h i) (eight k) = absurd (omega arith)
-  one-taken (size h i) (size k n) = (refl, refl)
-  one-taken (size h i) (fault k n o f) = absurd (omega arith)
-  one-taken (size h i) (clash k n o f m x y) = absurd (omega arith)
-  one-taken (size h i) (added k n o f m x) = absurd (omega arith)
-  one-taken (fault h i j e) (eight k) = absurd (omega arith)
-  one-taken (fault h i j e) (size k n) = absurd (omega arith)
-  one-taken {t = t} (fault {n = n} {k = k} h i j e) (fault {n = n′} {k = k′} x y z f) =
-      let (u, v) = one-fault count t n n′ k k′ e f in
-      (cc, refl)
-  one-taken (fault {n = u} {k = v} h i j e) (clash k n o f m x y) = absurd (f u v e)
-  one-taken (fault {n = u} {k = v} h i j e) (added k n o f m x) = absurd (f u v e)
-  one-taken (clash h i j e m x y) (eight k) = absurd (omega arith)
-  one-taken (clash h i j e m x y) (size k n) = absurd (omega arith)
-  one-taken (clash h i j e m x y) (fault {n = u} {k = v} k n o f) = absurd (e u v f)
-  one-taken {t = t} (clash {l = l} {p = p} {q = q} h i j e m x y) (clash {l = l′} {p = p′} {q = q′} k n o f m′ x′ y′) =
-      let (u, v) = one-first-clash l p q p′ q′ y (subst (λ w. First-clash w p′ q′) (sym (one-line t l l′ m m′)) y′) in
-      (cc, refl)
-  one-taken {t = t} (clash {l = l} h i j e m x y) (added {l = l′} k n o f m′ x′) = absurd (x′ (subst (λ w. Clash (w .expr)) (one-line t l l′ m m′) x))
-  one-taken (added h i j e m x) (eight k) = absurd (omega arith)
-  one-taken (added h i j e m x) (size k n) = absurd (omega arith)
-  one-taken (added h i j e m x) (fault {n = u} {k = v} k n o f) = absurd (e u v f)
-  one-taken {t = t} (added {l = l} h i j e m x) (clash {l = l′} k n o f m′ x′ y′) = absurd (x (subst (λ w. Clash (w .expr)) (sym (one-line t l l′ m m′)) x′))
-  one-taken (added h i j e m x) (added k n o f m′ x′) = (refl, refl)
+  one-taken (eight h) (turned-down k n) = absurd (omega arith)
+  one-taken (eight h) (added k n) = absurd (omega arith)
+  one-taken (turned-down h i) (eight k) = absurd (omega arith)
+  one-taken (turned-down h i) (turned-down k j) = (ap Answer.refused (one-refused i j), refl)
+  one-taken (turned-down h i) (added k n) = absurd (not-refused i n)
+  one-taken (added h i) (eight k) = absurd (omega arith)
+  one-taken (added h i) (turned-down k n) = absurd (not-refused n i)
+  one-taken (added h i) (added k n) = (refl, refl)
 
   no-texts : (ls : List Line) → a .texts ≡ [] → Mean (a .texts) ls → 0 < length ls → ⊥
   no-texts ls e m h = omega (arith, mean-length (a .texts) ls m, ap length e)

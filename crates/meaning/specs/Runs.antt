@@ -99,13 +99,26 @@ pub data Opens (count : ℕ) (moves sets : List ℕ) : Plate → (moves′ sets�
   opens : Room count moves sets → Opens count moves sets (open-for count) (cleared moves (most-states * count)) (cleared sets (most-states * most-lines))
   stays-shut : (Room count moves sets → ⊥) → Opens count moves sets shut moves sets
 
+-- a text that is refused on its own account: for its size, for a fault, or since its line clashes
+pub data Text-refused (count : ℕ) (t : List ℕ) : Refusal → Type 0 where
+  size : (length t ≡ 0) ⊎ (most-bytes < length t) → Text-refused count t (plain 1 1)
+  fault : {n k : ℕ} → 0 < length t → length t ≤ most-bytes → Fault count t n k → Text-refused count t (record { number = n; layer = 1; one = k; two = 0 })
+  clash : {l : Line} {p q : ℕ} → 0 < length t → length t ≤ most-bytes → ((n k : ℕ) → Fault count t n k → ⊥) → Means t l → Clash (l .expr) → First-clash l p q → Text-refused count t (record { number = 6; layer = 2; one = p; two = q })
+
+-- a text that is accepted: nothing is wrong with it, and its line does not clash
+pub record Text-accepted (count : ℕ) (t : List ℕ) : Type 0 where
+  pub line : Line
+  pub some : 0 < length t
+  pub short : length t ≤ most-bytes
+  pub faultless : (n k : ℕ) → Fault count t n k → ⊥
+  pub means : Means t line
+  pub clear : Clash (line .expr) → ⊥
+
 -- what take does with a text
 pub data Taken (count : ℕ) (a : Account) (t : List ℕ) : Answer → Account → Type 0 where
   eight : length (a .texts) ≡ most-lines → Taken count a t (refused (plain 21 3)) a
-  size : length (a .texts) < most-lines → (length t ≡ 0) ⊎ (most-bytes < length t) → Taken count a t (refused (plain 1 1)) a
-  fault : {n k : ℕ} → length (a .texts) < most-lines → 0 < length t → length t ≤ most-bytes → Fault count t n k → Taken count a t (refused (record { number = n; layer = 1; one = k; two = 0 })) a
-  clash : {l : Line} {p q : ℕ} → length (a .texts) < most-lines → 0 < length t → length t ≤ most-bytes → ((n k : ℕ) → Fault count t n k → ⊥) → Means t l → Clash (l .expr) → First-clash l p q → Taken count a t (refused (record { number = 6; layer = 2; one = p; two = q })) a
-  added : {l : Line} → length (a .texts) < most-lines → 0 < length t → length t ≤ most-bytes → ((n k : ℕ) → Fault count t n k → ⊥) → Means t l → (Clash (l .expr) → ⊥) → Taken count a t (numbered (length (a .texts))) (with-lines a (a .texts ++ t ∷ []))
+  turned-down : {f : Refusal} → length (a .texts) < most-lines → Text-refused count t f → Taken count a t (refused f) a
+  added : length (a .texts) < most-lines → Text-accepted count t → Taken count a t (numbered (length (a .texts))) (with-lines a (a .texts ++ t ∷ []))
 
 -- what strike does
 pub data Struck (a : Account) : Answer → Account → Type 0 where

@@ -1,9 +1,13 @@
 // A plate: the standing lines of a sheet and, once built, their scanner table in lent memory.
 
 mod build;
+mod cells;
 mod desk;
+mod lines;
 mod numbering;
 mod open;
+mod plate;
 mod table;
 
+pub use desk::Desk;
 pub use open::Plate;

@@ -1,6 +1,8 @@
 // The states of a plate as they are met, each with its number.
-use sheet::MOST_LINES;
-use sheet::MOST_STATES;
+ghost use Prim.Native.Nat.{_<_, _≤_};
+ghost use Rattle.std.specs.Options.{Cases};
+use positions::MOST_LINES;
+use positions::MOST_STATES;
 
 // A state: one set of positions for each line that a plate can have.
 pub type State = [u64; MOST_LINES];
@@ -11,6 +13,8 @@ pub const NOWHERE: State = [0; MOST_LINES];
 pub struct Numbering {
     pub states: [State; MOST_STATES],
     pub met: usize,
+    ghost some: { 1 ≤ met },
+    ghost few: { met ≤ 64 },
 }
 
 impl Numbering {
@@ -21,7 +25,9 @@ impl Numbering {
         Numbering { states, met: 1 }
     }
 
-    fn find(&self, state: State) -> Option<usize> {
+    fn find(&self, state: State) -> Option<usize>
+        ensures { λ r. ⌜ Cases r (Unit {0}) (λ s. s < now (self .entry) .met) ⌝ }
+    {
         for s in 0..self.met {
             if self.states[s] == state {
                 return Some(s);
@@ -31,7 +37,9 @@ impl Numbering {
     }
 
     // The number of a state, which is met now if it was not before; none where the plate has no number for it.
-    pub fn number(&mut self, state: State) -> Option<usize> {
+    pub fn number(&mut self, state: State) -> Option<usize>
+        ensures { λ r. ⌜ Cases r (Unit {0}) (λ s. s < now (self .exit) .met) ⌝ }
+    {
         if let Some(s) = self.find(state) {
             return Some(s);
         }

@@ -1,12 +1,10 @@
 // Reading: cuts an extent into pieces by a built plate, and tests a whole extent against one line.
 
-mod pieces;
-mod read;
-mod test;
+mod cutting;
+mod testing;
 
+pub use cutting::Why;
+pub use cutting::longest;
+pub use cutting::read;
 pub use meaning::Piece;
-pub use pieces::Pieces;
-pub use read::Why;
-pub use read::longest;
-pub use read::read;
-pub use test::test;
+pub use testing::test;

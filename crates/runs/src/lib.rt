@@ -1,8 +1,8 @@
 // Whole runs: any calls, in any order and number, on one freshly opened plate and one doer.
 
-mod call;
-mod run;
+mod calling;
+mod running;
 
-pub use call::Answer;
-pub use call::Call;
-pub use run::run;
+pub use calling::Answer;
+pub use calling::Call;
+pub use running::run;

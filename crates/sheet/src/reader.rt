@@ -1,7 +1,15 @@
-// The text layer: reads a line's text byte by byte and works out its symbols and position sets on the way.
-use crate::limits::*;
+ghost use Prim.Native.Nat.{ℕ, _+_, _<_, _≤_};
+ghost use mathlib.Core.Path.{_≡_};
+ghost use lib.ListN.{length, getD};
+ghost use Rattle.std.specs.Options.{Cases as BySome};
+ghost use Rattle.std.specs.Results.{Cases as ByOk};
+ghost use Rattle.sheet.specs.Refusals.{reported};
+// The text layer: reads a line's text byte by byte and works out its position sets on the way.
 use crate::refusal::Refusal;
 use meaning::Symbol;
+use positions::Draft;
+use positions::MOST_CODE;
+use positions::MOST_LEVELS;
 
 // What a form adds to the sets: whether it has the empty word, and the positions that its words begin and end with.
 #[derive(Clone, Copy)]
@@ -18,40 +26,7 @@ enum Join {
     Alt,
 }
 
-// What was read of a line: its symbols, and for each the positions that can follow it. Position p is bit p - 1.
-#[derive(Clone, Copy)]
-pub struct Draft {
-    pub count: usize,
-    pub symbols: [Symbol; MOST_SYMBOLS],
-    pub follow: [u64; MOST_POSITIONS],
-}
-
-impl Draft {
-    pub fn new() -> Draft {
-        Draft { count: 0, symbols: [Symbol { low: 0, high: 0, code: 0 }; MOST_SYMBOLS], follow: [0; MOST_POSITIONS] }
-    }
-
-    // The positions of `after` can follow those of `last`.
-    pub fn link(&mut self, last: u64, after: u64) {
-        for p in 0..MOST_POSITIONS {
-            if (last >> p) & 1 == 1 {
-                self.follow[p] |= after;
-            }
-        }
-    }
-}
-
-#[derive(Drop)]
-pub struct Reader<'t> {
-    text: &'t [u8],
-    // bytes read
-    at: usize,
-    // classes of the alphabet
-    classes: usize,
-    draft: Draft,
-}
-
-// A line's two codes, the sets of its expression, and its symbols.
+// A line that was read: its two codes, the sets of its expression, and its symbols with what follows each.
 #[derive(Clone, Copy)]
 pub struct Parsed {
     pub open: u16,
@@ -60,7 +35,23 @@ pub struct Parsed {
     pub draft: Draft,
 }
 
-pub fn parse(text: &[u8], classes: usize) -> Result<Parsed, Refusal> {
+#[derive(Drop)]
+struct Reader<'t> {
+    text: &'t [u8],
+    // bytes read
+    at: usize,
+    // classes of the alphabet
+    classes: usize,
+    draft: Draft,
+    ghost within: { at ≤ length (text .now) },
+    ghost counted: { classes ≤ 256 },
+}
+
+// Reads a whole text.
+pub fn parse(text: &[u8], classes: usize) -> Result<Parsed, Refusal>
+    requires { ⌜ classes ≤ 256 ⌝ }
+    ensures { λ r. ⌜ ByOk r (λ _. Unit {0}) (λ f. reported f .layer ≡ 1) ⌝ }
+{
     let mut reader = Reader { text, at: 0, classes, draft: Draft::new() };
     let (open, close, part) = reader.line()?;
     Ok(Parsed { open, close, part, draft: reader.draft })
@@ -68,62 +59,95 @@ pub fn parse(text: &[u8], classes: usize) -> Result<Parsed, Refusal> {
 
 impl Reader<'_> {
     // The next byte as a character.
-    fn next(&self) -> Option<char> {
+    fn next(&self) -> Option<char>
+        ensures { λ r. ⌜ BySome r (length (now (now (self .entry) .text)) ≤ now (self .entry) .at) (λ c. (now (self .entry) .at < length (now (now (self .entry) .text))) × (c ≡ getD (now (now (self .entry) .text)) (now (self .entry) .at) 0)) ⌝ }
+    {
         if self.at < self.text.len() { Some(self.text[self.at] as char) } else { None }
     }
 
-    fn bad_form(&self) -> Refusal {
+    // Goes on behind the next byte.
+    fn pass(&mut self)
+        ensures text { λ _. ⌜ now (now (self .exit) .text) ≡ now (now (self .entry) .text) ⌝ }
+        ensures on { λ _. ⌜ now (self .entry) .at ≤ now (self .exit) .at ⌝ }
+        ensures one { λ _. ⌜ (now (self .entry) .at < length (now (now (self .entry) .text)) → now (self .exit) .at ≡ now (self .entry) .at + 1) ⌝ }
+    {
+        if self.at < self.text.len() {
+            self.at += 1;
+        }
+    }
+
+    fn bad_form(&self) -> Refusal
+        ensures { λ r. ⌜ reported r .layer ≡ 1 ⌝ }
+    {
         Refusal::BadForm { byte: self.at }
     }
 
     // The byte `c`, and no other.
-    fn expect(&mut self, c: char) -> Result<(), Refusal> {
+    fn expect(&mut self, c: char) -> Result<(), Refusal>
+        ensures text { λ _. ⌜ now (now (self .exit) .text) ≡ now (now (self .entry) .text) ⌝ }
+        ensures on { λ _. ⌜ now (self .entry) .at ≤ now (self .exit) .at ⌝ }
+        ensures layer { λ r. ⌜ ByOk r (λ _. Unit {0}) (λ f. reported f .layer ≡ 1) ⌝ }
+    {
         match self.next() {
             Some(d) if d == c => {
-                self.at += 1;
+                self.pass();
                 Ok(())
             }
             _ => Err(self.bad_form()),
         }
     }
 
+    // A digit, if one is next.
+    fn digit(&mut self) -> Option<usize>
+        ensures text { λ _. ⌜ now (now (self .exit) .text) ≡ now (now (self .entry) .text) ⌝ }
+        ensures on { λ _. ⌜ now (self .entry) .at ≤ now (self .exit) .at ⌝ }
+        ensures value { λ r. ⌜ BySome r (Unit {0}) (λ d. d < 10) ⌝ }
+    {
+        match self.next() {
+            Some(c) if '0' <= c && c <= '9' => {
+                self.pass();
+                Some(c as usize - '0' as usize)
+            }
+            _ => None,
+        }
+    }
+
     // One digit or up to five, of which the first is 0 only if it is the last.
-    fn digits(&mut self) -> Result<usize, Refusal> {
-        let mut value = self.digit()?;
-        if value > 0 {
-            for _ in 0..4 {
-                match self.next() {
-                    Some('0'..='9') => value = value * 10 + self.digit()?,
-                    _ => break,
-                }
+    fn digits(&mut self) -> Result<usize, Refusal>
+        ensures text { λ _. ⌜ now (now (self .exit) .text) ≡ now (now (self .entry) .text) ⌝ }
+        ensures on { λ _. ⌜ now (self .entry) .at ≤ now (self .exit) .at ⌝ }
+        ensures layer { λ r. ⌜ ByOk r (λ _. Unit {0}) (λ f. reported f .layer ≡ 1) ⌝ }
+    {
+        let Some(first) = self.digit() else {
+            return Err(self.bad_form());
+        };
+        if first == 0 {
+            return Ok(0);
+        }
+        let mut value = first;
+        for k in 0..4usize {
+            match self.digit() {
+                Some(d) => value = value * 10 + d,
+                None => break,
             }
         }
         Ok(value)
     }
 
-    fn digit(&mut self) -> Result<usize, Refusal> {
-        if self.at < self.text.len() {
-            let b = self.text[self.at];
-            match b as char {
-                '0'..='9' => {
-                    self.at += 1;
-                    return Ok((b - b'0') as usize);
-                }
-                _ => {}
-            }
-        }
-        Err(self.bad_form())
-    }
-
-    // A number from `low` to `high` and the byte `stop` behind it, which is named where the number is out of range.
-    fn number(&mut self, stop: char, low: usize, high: usize) -> Result<u16, Refusal> {
+    // A number from `low` to below `end` and the byte `stop` behind it, which is named where the number is out of range.
+    fn number(&mut self, stop: char, low: usize, end: usize) -> Result<u16, Refusal>
+        requires { ⌜ end ≤ 65536 ⌝ }
+        ensures text { λ _. ⌜ now (now (self .exit) .text) ≡ now (now (self .entry) .text) ⌝ }
+        ensures on { λ _. ⌜ now (self .entry) .at ≤ now (self .exit) .at ⌝ }
+        ensures layer { λ r. ⌜ ByOk r (λ _. Unit {0}) (λ f. reported f .layer ≡ 1) ⌝ }
+    {
         let value = self.digits()?;
         match self.next() {
             Some(c) if c == stop => {
-                if value < low || value > high {
+                if value < low || value >= end {
                     return Err(Refusal::OutOfRange { byte: self.at });
                 }
-                self.at += 1;
+                self.pass();
                 Ok(value as u16)
             }
             _ => Err(self.bad_form()),
@@ -131,31 +155,39 @@ impl Reader<'_> {
     }
 
     // The whole text: `(rule OPEN CLOSE E)`.
-    fn line(&mut self) -> Result<(u16, u16, Part), Refusal> {
+    fn line(&mut self) -> Result<(u16, u16, Part), Refusal>
+        ensures text { λ _. ⌜ now (now (self .exit) .text) ≡ now (now (self .entry) .text) ⌝ }
+        ensures on { λ _. ⌜ now (self .entry) .at ≤ now (self .exit) .at ⌝ }
+        ensures layer { λ r. ⌜ ByOk r (λ _. Unit {0}) (λ f. reported f .layer ≡ 1) ⌝ }
+    {
         self.expect('(')?;
         self.expect('r')?;
         self.expect('u')?;
         self.expect('l')?;
         self.expect('e')?;
         self.expect(' ')?;
-        let open = self.number(' ', 0, MOST_CODE)?;
-        let close = self.number(' ', 0, MOST_CODE)?;
+        let open = self.number(' ', 0, MOST_CODE + 1)?;
+        let close = self.number(' ', 0, MOST_CODE + 1)?;
         let part = self.form(MOST_LEVELS - 1)?;
         self.expect(')')?;
-        if self.at < self.text.len() {
-            return Err(self.bad_form());
+        match self.next() {
+            None => Ok((open, close, part)),
+            Some(_) => Err(self.bad_form()),
         }
-        Ok((open, close, part))
     }
 
     // One form, with `levels` brackets still to open.
-    fn form(&mut self, levels: usize) -> Result<Part, Refusal> {
+    fn form(&mut self, levels: usize) -> Result<Part, Refusal>
+        ensures text { λ _. ⌜ now (now (self .exit) .text) ≡ now (now (self .entry) .text) ⌝ }
+        ensures on { λ _. ⌜ now (self .entry) .at ≤ now (self .exit) .at ⌝ }
+        ensures layer { λ r. ⌜ ByOk r (λ _. Unit {0}) (λ f. reported f .layer ≡ 1) ⌝ }
+    {
         match self.next() {
             Some('(') => {
                 if levels == 0 {
                     return Err(Refusal::TooDeep { byte: self.at });
                 }
-                self.at += 1;
+                self.pass();
                 self.head(levels - 1)
             }
             _ => Err(self.bad_form()),
@@ -163,21 +195,25 @@ impl Reader<'_> {
     }
 
     // What stands behind the bracket of a form.
-    fn head(&mut self, levels: usize) -> Result<Part, Refusal> {
+    fn head(&mut self, levels: usize) -> Result<Part, Refusal>
+        ensures text { λ _. ⌜ now (now (self .exit) .text) ≡ now (now (self .entry) .text) ⌝ }
+        ensures on { λ _. ⌜ now (self .entry) .at ≤ now (self .exit) .at ⌝ }
+        ensures layer { λ r. ⌜ ByOk r (λ _. Unit {0}) (λ f. reported f .layer ≡ 1) ⌝ }
+    {
         match self.next() {
             Some('a') => {
-                self.at += 1;
+                self.pass();
                 self.expect('l')?;
                 self.expect('t')?;
                 self.expect(' ')?;
                 self.list(Join::Alt, levels)
             }
             Some('n') => {
-                self.at += 1;
+                self.pass();
                 self.none()
             }
             Some('s') => {
-                self.at += 1;
+                self.pass();
                 self.second(levels)
             }
             _ => Err(self.bad_form()),
@@ -185,20 +221,24 @@ impl Reader<'_> {
     }
 
     // What stands behind `(s`.
-    fn second(&mut self, levels: usize) -> Result<Part, Refusal> {
+    fn second(&mut self, levels: usize) -> Result<Part, Refusal>
+        ensures text { λ _. ⌜ now (now (self .exit) .text) ≡ now (now (self .entry) .text) ⌝ }
+        ensures on { λ _. ⌜ now (self .entry) .at ≤ now (self .exit) .at ⌝ }
+        ensures layer { λ r. ⌜ ByOk r (λ _. Unit {0}) (λ f. reported f .layer ≡ 1) ⌝ }
+    {
         match self.next() {
             Some('y') => {
-                self.at += 1;
+                self.pass();
                 self.symbol()
             }
             Some('e') => {
-                self.at += 1;
+                self.pass();
                 self.expect('q')?;
                 self.expect(' ')?;
                 self.list(Join::Seq, levels)
             }
             Some('t') => {
-                self.at += 1;
+                self.pass();
                 self.expect('a')?;
                 self.expect('r')?;
                 self.expect(' ')?;
@@ -212,16 +252,20 @@ impl Reader<'_> {
     }
 
     // One form or more, a blank between them, and the bracket that closes the list.
-    fn list(&mut self, join: Join, levels: usize) -> Result<Part, Refusal> {
+    fn list(&mut self, join: Join, levels: usize) -> Result<Part, Refusal>
+        ensures text { λ _. ⌜ now (now (self .exit) .text) ≡ now (now (self .entry) .text) ⌝ }
+        ensures on { λ _. ⌜ now (self .entry) .at ≤ now (self .exit) .at ⌝ }
+        ensures layer { λ r. ⌜ ByOk r (λ _. Unit {0}) (λ f. reported f .layer ≡ 1) ⌝ }
+    {
         let one = self.form(levels)?;
         match self.next() {
             Some(' ') => {
-                self.at += 1;
+                self.pass();
                 let rest = self.list(join, levels)?;
                 Ok(self.joined(join, one, rest))
             }
             Some(')') => {
-                self.at += 1;
+                self.pass();
                 Ok(one)
             }
             _ => Err(self.bad_form()),
@@ -229,7 +273,10 @@ impl Reader<'_> {
     }
 
     // The sets of a form and the rest of its list together.
-    fn joined(&mut self, join: Join, one: Part, rest: Part) -> Part {
+    fn joined(&mut self, join: Join, one: Part, rest: Part) -> Part
+        ensures text { λ _. ⌜ now (now (self .exit) .text) ≡ now (now (self .entry) .text) ⌝ }
+        ensures on { λ _. ⌜ now (self .entry) .at ≤ now (self .exit) .at ⌝ }
+    {
         match join {
             Join::Seq => {
                 self.draft.link(one.last, rest.first);
@@ -248,7 +295,11 @@ impl Reader<'_> {
     }
 
     // What stands behind `(n`.
-    fn none(&mut self) -> Result<Part, Refusal> {
+    fn none(&mut self) -> Result<Part, Refusal>
+        ensures text { λ _. ⌜ now (now (self .exit) .text) ≡ now (now (self .entry) .text) ⌝ }
+        ensures on { λ _. ⌜ now (self .entry) .at ≤ now (self .exit) .at ⌝ }
+        ensures layer { λ r. ⌜ ByOk r (λ _. Unit {0}) (λ f. reported f .layer ≡ 1) ⌝ }
+    {
         self.expect('o')?;
         self.expect('n')?;
         self.expect('e')?;
@@ -257,30 +308,35 @@ impl Reader<'_> {
     }
 
     // What stands behind `(sy`.
-    fn symbol(&mut self) -> Result<Part, Refusal> {
-        let position = self.draft.count;
+    fn symbol(&mut self) -> Result<Part, Refusal>
+        ensures text { λ _. ⌜ now (now (self .exit) .text) ≡ now (now (self .entry) .text) ⌝ }
+        ensures on { λ _. ⌜ now (self .entry) .at ≤ now (self .exit) .at ⌝ }
+        ensures layer { λ r. ⌜ ByOk r (λ _. Unit {0}) (λ f. reported f .layer ≡ 1) ⌝ }
+    {
         match self.next() {
             Some('m') => {
-                if position >= MOST_SYMBOLS {
+                if self.draft.is_full() {
                     return Err(Refusal::TooManySymbols { byte: self.at });
                 }
-                self.at += 1;
+                self.pass();
             }
             _ => return Err(self.bad_form()),
         }
         self.expect(' ')?;
         let symbol = self.range()?;
-        self.draft.symbols[position] = symbol;
-        self.draft.count = position + 1;
-        Ok(Part { nullable: false, first: 1 << position, last: 1 << position })
+        let position = self.draft.add(symbol);
+        Ok(Part { nullable: false, first: position, last: position })
     }
 
     // LO, HI and CODE, up to the bracket behind them.
-    fn range(&mut self) -> Result<Symbol, Refusal> {
-        let top = self.classes - 1;
-        let low = self.number(' ', 0, top)?;
-        let high = self.number(' ', low as usize, top)?;
-        let code = self.number(')', 0, MOST_CODE)?;
+    fn range(&mut self) -> Result<Symbol, Refusal>
+        ensures text { λ _. ⌜ now (now (self .exit) .text) ≡ now (now (self .entry) .text) ⌝ }
+        ensures on { λ _. ⌜ now (self .entry) .at ≤ now (self .exit) .at ⌝ }
+        ensures layer { λ r. ⌜ ByOk r (λ _. Unit {0}) (λ f. reported f .layer ≡ 1) ⌝ }
+    {
+        let low = self.number(' ', 0, self.classes)?;
+        let high = self.number(' ', low as usize, self.classes)?;
+        let code = self.number(')', 0, MOST_CODE + 1)?;
         Ok(Symbol { low, high, code })
     }
 }

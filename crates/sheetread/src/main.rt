@@ -1,3 +1,5 @@
+ghost use Prim.Native.Nat.{_≤_};
+ghost use lib.ListN.{length};
 // Reads a sheet and an extent from standard input, and prints how the sheet's lines cut the extent and which codes each piece carries.
 use doers::Tape;
 use doers::TapeDoer;
@@ -6,10 +8,10 @@ use runs::Answer;
 use runs::Call;
 use runs::run;
 use sheet::Bytes;
-use sheet::LONGEST_EXTENT;
-use sheet::MOST_CLASSES;
-use sheet::MOST_LINES;
-use sheet::MOST_STATES;
+use positions::LONGEST_EXTENT;
+use positions::MOST_CLASSES;
+use positions::MOST_LINES;
+use positions::MOST_STATES;
 use std::alloc::AllocError;
 use std::alloc::Global;
 use std::io;
@@ -40,7 +42,10 @@ fn input(rt: &LibcRuntime) -> io::Result<Vec<u8>> {
 }
 
 // Where the line that begins at `start` ends: at its byte 10, or at the input's end.
-fn line_end(input: &[u8], start: usize) -> usize {
+fn line_end(input: &[u8], start: usize) -> usize
+    requires { ⌜ start ≤ length (now input) ⌝ }
+    ensures { λ r. ⌜ (start ≤ r) × (r ≤ length (now (input .entry))) ⌝ }
+{
     for at in start..input.len() {
         if input[at] == b'\n' {
             return at;
@@ -49,8 +54,8 @@ fn line_end(input: &[u8], start: usize) -> usize {
     input.len()
 }
 
-// The calls for a sheet and its extent: each line is taken, the plate is built, and the extent is read and played.
-fn calls(heap: Global, input: &[u8]) -> Result<Vec<Call<'_, u8>>, AllocError> {
+// The calls for a sheet and its extent, and how many lines it has: each line is taken, the plate is built, and the extent is read and played.
+fn calls(heap: Global, input: &[u8]) -> Result<(Vec<Call<'_, u8>>, usize), AllocError> {
     let mut calls = Vec::new(heap);
     let mut start = 0;
     for _ in 0..MOST_INPUT {
@@ -62,45 +67,44 @@ fn calls(heap: Global, input: &[u8]) -> Result<Vec<Call<'_, u8>>, AllocError> {
         start = if end < input.len() { end + 1 } else { end };
     }
     let extent = if start < input.len() { &input[start + 1..] } else { &input[input.len()..] };
+    let lines = calls.len();
     calls.push(Call::Build)?;
     calls.push(Call::Read(extent, LIST))?;
     calls.push(Call::Play(extent))?;
-    Ok(calls)
+    Ok((calls, lines))
 }
 
 // One line for each piece, its codes from the tape.
 fn print_pieces(rt: &LibcRuntime, pieces: &[Piece], tape: &[u16]) -> io::Result<()> {
-    let mut at = 0;
+    let mut at = 0usize;
     for piece in pieces {
+        let end = tape.len().min(at.saturating_add(piece.len).saturating_add(2));
         let mut text = format!(rt.alloc(), "piece {} {} {}", piece.line, piece.place, piece.len)?;
-        for _ in 0..piece.len + 2 {
-            if at < tape.len() {
-                text.push_str(format!(rt.alloc(), " {}", tape[at])?.as_str())?;
-                at += 1;
-            }
+        for code in &tape[at..end] {
+            text.push_str(format!(rt.alloc(), " {code}")?.as_str())?;
         }
         println!(rt, "{text}")?;
+        at = end;
     }
     Ok(())
 }
 
-// The answers up to the first refusal, or the pieces and where they end.
-fn print_answers(rt: &LibcRuntime, answers: &[Answer], list: &[Piece], tape: &[u16]) -> io::Result<()> {
-    for (taken, answer) in answers.iter().enumerate() {
+// The first refusal, or the pieces and where they end.
+fn print_answers(rt: &LibcRuntime, answers: &[Answer], lines: usize, list: &[Piece], tape: &[u16]) -> io::Result<()> {
+    for (made, answer) in answers.iter().enumerate() {
         match *answer {
             Answer::Refused(refusal) => {
+                let taken = made.min(lines);
                 let (one, two) = refusal.details();
-                let lines = if taken < MOST_LINES { taken } else { MOST_LINES };
-                return println!(rt, "refused {lines} {} {} {one} {two}", refusal.number(), refusal.layer());
+                return println!(rt, "refused {taken} {} {} {one} {two}", refusal.number(), refusal.layer());
             }
-            Answer::Number(_) => {}
             Answer::Read(pieces, place, why) => {
                 if pieces <= list.len() {
                     print_pieces(rt, &list[0..pieces], tape)?;
                 }
                 return println!(rt, "end {place} {}", why.number());
             }
-            Answer::Played(..) => {}
+            Answer::Number(_) | Answer::Played(..) => {}
         }
     }
     Ok(())
@@ -109,7 +113,7 @@ fn print_answers(rt: &LibcRuntime, answers: &[Answer], list: &[Piece], tape: &[u
 fn main(rt: LibcRuntime) -> io::Result<()> {
     let heap = rt.alloc();
     let input = input(&rt)?;
-    let calls = calls(heap, &input)?;
+    let (calls, lines) = calls(heap, &input)?;
     let mut moves = vec![in heap; 0u16; MOST_STATES * MOST_CLASSES]?;
     let mut sets = vec![in heap; 0u64; MOST_STATES * MOST_LINES]?;
     let mut list = vec![in heap; Piece { line: 0, place: 0, len: 0 }; LIST]?;
@@ -117,5 +121,5 @@ fn main(rt: LibcRuntime) -> io::Result<()> {
     let mut cells = vec![in heap; 0u16; TAPE]?;
     let mut tape = Tape::new(&mut cells);
     run(&mut moves, &mut sets, &mut tape, &calls, &mut list, &mut answers);
-    print_answers(&rt, &answers, &list, &cells)
+    print_answers(&rt, &answers, lines, &list, &cells)
 }

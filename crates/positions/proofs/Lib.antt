@@ -1,0 +1,17 @@
+pub mod Bits
+pub mod Filling
+pub mod Linking
+pub mod Choosing
+pub mod Closing
+pub mod Fitting
+pub mod Trailing
+pub mod Coded
+pub mod Moved
+pub mod Lowbit
+pub mod Unions
+pub mod Marking
+pub mod Adding
+pub mod Beside
+pub mod Chasing
+pub mod Alike
+pub mod Clashing

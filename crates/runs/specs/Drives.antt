@@ -1,0 +1,34 @@
+-- What the calls of a run give to its doer. Assumes nothing.
+use mathlib.Core.Path.{_≡_}
+use mathlib.Core.List.{List, [], _∷_, _++_}
+use Prim.Native.Nat.{ℕ}
+use lib.ListN.{length, drop}
+use Rattle.meaning.specs.declared.Piece.{Piece}
+use Rattle.meaning.specs.Doers.{Given, Rule, Leads}
+use Rattle.runs.specs.declared.calling.Answer.{Answer}
+use Rattle.runs.specs.declared.calling.Answer.the-variants.{Refused, Number, Read, Played}
+
+-- a call with this answer gives nothing to the doer
+abbrev pub Quiet : Answer → Type 0
+Quiet (Refused f) = Unit {0}
+Quiet (Number n) = Unit {0}
+Quiet (Read pieces place why) = Unit {0}
+Quiet (Played pieces place codes why) = ⊥
+
+-- one call: the rule leads from s to t through what it gave, which is nothing unless it played
+pub record Gave {S : Type 0} (rule : Rule S) (s : S) (answer : Answer) (t : S) : Type 0 where
+  pub given : List Given
+  pub leads : Leads rule s given t
+  pub quiet : Quiet answer → given ≡ []
+
+-- all calls, by their answers in order: the rule leads from s to t through what they gave
+pub data Drives {S : Type 0} (rule : Rule S) (s : S) : List Answer → S → Type 0 where
+  opened : Drives rule s [] s
+  then : {answers more : List Answer} {t u : S} (answer : Answer) → Drives rule s answers t → Gave rule t answer u → more ≡ answers ++ answer ∷ [] → Drives rule s more u
+
+-- the cells of a read's list behind the pieces that it lists are as they were, and the list of any other call is as it was
+abbrev pub Kept-list : Answer → (before after : List Piece) → Type 0
+Kept-list (Refused f) before after = after ≡ before
+Kept-list (Number n) before after = after ≡ before
+Kept-list (Read pieces place why) before after = drop pieces after ≡ drop pieces before
+Kept-list (Played pieces place codes why) before after = after ≡ before
