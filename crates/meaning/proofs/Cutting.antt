@@ -2,13 +2,14 @@
 use mathlib.Core.Path.{_≡_, refl, sym, ap, subst, _∙_}
 use mathlib.Core.List.{List, _++_, append-nil}
 use mathlib.Core.Logic.{inl, inr}
-use Prim.Native.Nat.{ℕ, _<_, _≤_}
+use Prim.Native.Nat.{ℕ, _+_, _<_, _≤_}
 use native.Mathlib.Omega.{arith}
 use lib.ListN.{length, length-append}
 use Rattle.std.proofs.shelf.Tests.{cases-lt}
 use Rattle.meaning.specs.Words.{Line}
 use Rattle.meaning.specs.declared.Piece.{Piece}
 use Rattle.meaning.specs.Pieces.{Cut, Cuts, none, one-more, Why, at-end, no-piece, full, Reading}
+use Rattle.meaning.specs.ReadLaws.{total}
 
 module _ (ls : List Line) (extent : List ℕ) where
   pub one-cut : {place k n j m : ℕ} → Cut ls extent place k n → Cut ls extent place j m → (k ≡ j) × (n ≡ m)
@@ -68,3 +69,18 @@ module _ (ls : List Line) (extent : List ℕ) where
         (sym e, sym f, sym g)
     | inr h ↦ shorter-reading room ps qs s t v w a b h
   ]
+
+  -- the lengths add up to the way from the first place to the last
+  adds-up : {place stop : ℕ} {ps : List Piece} → Cuts ls extent place ps stop → place + total ps ≡ stop
+  adds-up none = omega arith
+  adds-up (one-more c a) = let h = adds-up a in omega arith
+
+  pub lengths-add : (place stop : ℕ) (ps : List Piece) → Cuts ls extent place ps stop → place + total ps ≡ stop
+  lengths-add place stop ps a = adds-up a
+
+  cuts-inside : {place stop : ℕ} {ps : List Piece} → Cuts ls extent place ps stop → place ≤ length extent → stop ≤ length extent
+  cuts-inside none h = h
+  cuts-inside (one-more c a) h = cuts-inside a (c .fits .inside)
+
+  pub reading-inside : (room : ℕ) (ps : List Piece) (place why : ℕ) → Reading ls extent room ps place why → (total ps ≡ place) × (place ≤ length extent)
+  reading-inside room ps place why r = (omega (arith, adds-up (r .cuts)), cuts-inside (r .cuts) (omega arith))

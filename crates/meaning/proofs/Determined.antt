@@ -41,8 +41,8 @@ one-mean (t ∷ ts) [] ms h k = absurd h
 one-mean (t ∷ ts) (l ∷ ls) [] h k = absurd k
 one-mean (t ∷ ts) (l ∷ ls) (m ∷ ms) h k = ap₂ _∷_ (one-line t l m (h .0) (k .0)) (one-mean ts ls ms (h .1) (k .1))
 
-module _ (count : ℕ) (a : Account) where
-  one-refused : {t : List ℕ} {f g : Refusal} → Text-refused count t f → Text-refused count t g → f ≡ g
+module _ (count : ℕ) where
+  pub one-refused : {t : List ℕ} {f g : Refusal} → Text-refused count t f → Text-refused count t g → f ≡ g
   one-refused (size h) (size k) = refl
   one-refused (size h) (fault n o f) = absurd (omega arith)
   one-refused (size h) (clash n o f m x y) = absurd (omega arith)
@@ -57,20 +57,21 @@ module _ (count : ℕ) (a : Account) where
       let (u, v) = one-first-clash l p q p′ q′ y (subst (λ w. First-clash w p′ q′) (sym (one-line t l l′ m m′)) y′) in
       cc
 
-  not-refused : {t : List ℕ} {f : Refusal} → Text-refused count t f → Text-accepted count t → ⊥
+  pub not-refused : {t : List ℕ} {f : Refusal} → Text-refused count t f → Text-accepted count t → ⊥
   not-refused (size h) k = omega (arith, k .some, k .short)
   not-refused (fault {n = u} {k = v} i j e) k = k .faultless u v e
   not-refused {t = t} (clash {l = l} i j e m x y) k = k .clear (subst (λ w. Clash (w .expr)) (one-line t l (k .line) m (k .means)) x)
 
+module _ (count : ℕ) (a : Account) where
   one-taken : {t : List ℕ} {r r′ : Answer} {b b′ : Account} → Taken count a t r b → Taken count a t r′ b′ → (r ≡ r′) × (b ≡ b′)
   one-taken (eight h) (eight k) = (refl, refl)
   one-taken (eight h) (turned-down k n) = absurd (omega arith)
   one-taken (eight h) (added k n) = absurd (omega arith)
   one-taken (turned-down h i) (eight k) = absurd (omega arith)
-  one-taken (turned-down h i) (turned-down k j) = (ap Answer.refused (one-refused i j), refl)
-  one-taken (turned-down h i) (added k n) = absurd (not-refused i n)
+  one-taken (turned-down h i) (turned-down k j) = (ap Answer.refused (one-refused count i j), refl)
+  one-taken (turned-down h i) (added k n) = absurd (not-refused count i n)
   one-taken (added h i) (eight k) = absurd (omega arith)
-  one-taken (added h i) (turned-down k n) = absurd (not-refused n i)
+  one-taken (added h i) (turned-down k n) = absurd (not-refused count n i)
   one-taken (added h i) (added k n) = (refl, refl)
 
   no-texts : (ls : List Line) → a .texts ≡ [] → Mean (a .texts) ls → 0 < length ls → ⊥
@@ -182,3 +183,9 @@ module _ (count : ℕ) {S : Type 0} (rule : Rule S) (first : S) where
         a .same-lists ∙ ap (λ rs. gathered rs ++ drop (length (gathered rs)) lists) e ∙ sym (b .same-lists),
         a .same-answers ∙ ap (λ rs. map told rs ++ drop (length rs) answers) e ∙ sym (b .same-answers),
       )
+
+  pub one-account : (moves sets : List ℕ) (cs : List Call) (rs rs′ : List Answer) (moves₁ moves₂ sets₁ sets₂ : List ℕ) (s t : S)
+      (h : Kept count rule first moves sets cs rs moves₁ sets₁ s) (k : Kept count rule first moves sets cs rs′ moves₂ sets₂ t) → h .account ≡ k .account
+  one-account moves sets cs rs rs′ moves₁ moves₂ sets₁ sets₂ s t a b =
+      let (p, m, n) = one-opening (a .opening) (b .opening) in
+      one-run (a .run) (subst₃ (λ x y z. Run count rule first x (fresh y z) cs rs′ (b .account)) (sym p) (sym m) (sym n) (b .run)) refl .1

@@ -1,14 +1,15 @@
 -- What is proved of texts, openings, runs of calls and tests: the calls alone decide every answer and every cell. Assumes nothing.
 use mathlib.Core.Path.{_≡_}
 use mathlib.Core.List.{List, map}
+use mathlib.Core.Logic.{_⊎_}
 use Prim.Native.Nat.{ℕ}
 use Rattle.std.specs.declared.option.Option.{Option}
-use Rattle.meaning.specs.Words.{Line}
+use Rattle.meaning.specs.Words.{Line, Each}
 use Rattle.meaning.specs.Text.{Well-formed}
 use Rattle.meaning.specs.declared.Piece.{Piece}
 use Rattle.meaning.specs.Positions.{First-clash}
 use Rattle.meaning.specs.Doers.{Rule}
-use Rattle.meaning.specs.Runs.{Refusal, plain, Call, Answer, answer-no, Account, Means, Mean, Plate, Room, Checks, Opens, Step, Called, Run, Kept}
+use Rattle.meaning.specs.Runs.{Refusal, plain, Call, Answer, answer-no, Account, Means, Mean, Plate, Room, Checks, Opens, Text-refused, Text-accepted, Step, Called, Run, Kept}
 use Rattle.meaning.specs.Asked.{Asked, Reply, Ran}
 use Rattle.meaning.specs.Tests.{Verdict, Tests}
 
@@ -25,7 +26,13 @@ pub record Refusal-law : Type 0 where
   pub opening : (count : ℕ) (moves sets : List ℕ) (p q : Plate) (moves₁ moves₂ sets₁ sets₂ : List ℕ)
       → Opens count moves sets p moves₁ sets₁ → Opens count moves sets q moves₂ sets₂ → (p ≡ q) × (moves₁ ≡ moves₂) × (sets₁ ≡ sets₂)
 
--- every call on memories that are too small is refused, and changes nothing
+-- a text is refused on its own account or accepted, never both, and in one way
+pub record Text-law : Type 0 where
+  pub either : (count : ℕ) (t : List ℕ) → ((f : Refusal) × Text-refused count t f) ⊎ Text-accepted count t
+  pub never-both : (count : ℕ) (t : List ℕ) (f : Refusal) → Text-refused count t f → Text-accepted count t → ⊥
+  pub one-refusal : (count : ℕ) (t : List ℕ) (f g : Refusal) → Text-refused count t f → Text-refused count t g → f ≡ g
+
+-- on memories that are too small for a plate every call is refused 25, and nothing changes
 abbrev pub Shut-law : Type 0 → Type 0
 Shut-law S = (count : ℕ) (rule : Rule S) (first : S) (moves sets : List ℕ) (cs : List Call) → (Room count moves sets → ⊥)
     → Kept count rule first moves sets cs (map (λ c. answer-no c (plain 25 3)) cs) moves sets first
@@ -49,7 +56,24 @@ pub record Run-law (S : Type 0) : Type 0 where
       → Ran count rule first moves sets asked lists answers moves₂ sets₂ t lists₂ answers₂
       → (moves₁ ≡ moves₂) × (sets₁ ≡ sets₂) × (s ≡ t) × (lists₁ ≡ lists₂) × (answers₁ ≡ answers₂)
 
+-- every run has an outcome, whatever the calls and the memories
+abbrev pub Outcome-law : Type 0 → Type 0
+Outcome-law S = (count : ℕ) (rule : Rule S) (first : S) (moves sets : List ℕ) (cs : List Call)
+    → (rs : List Answer) × (moves′ : List ℕ) × (sets′ : List ℕ) × (s : S) × Kept count rule first moves sets cs rs moves′ sets′ s
+
+-- the calls decide the account of a run, from the opening on
+abbrev pub Account-law : Type 0 → Type 0
+Account-law S = (count : ℕ) (rule : Rule S) (first : S) (moves sets : List ℕ) (cs : List Call)
+    (rs rs′ : List Answer) (moves₁ moves₂ sets₁ sets₂ : List ℕ) (s t : S)
+    (h : Kept count rule first moves sets cs rs moves₁ sets₁ s) (k : Kept count rule first moves sets cs rs′ moves₂ sets₂ t)
+    → h .account ≡ k .account
+
 -- a test has one verdict, and leaves the code cells in one way
 abbrev pub Test-law : Type 0
 Test-law = (p : Plate) (count : ℕ) (a : Account) (k : ℕ) (extent cells : List ℕ) (v w : Verdict) (after after′ : List ℕ)
     → Tests p count a k extent cells v after → Tests p count a k extent cells w after′ → (v ≡ w) × (after ≡ after′)
+
+-- over texts that were accepted every test has a verdict
+abbrev pub Verdict-law : Type 0
+Verdict-law = (p : Plate) (count : ℕ) (a : Account) (k : ℕ) (extent cells : List ℕ) → Each (Text-accepted count) (a .texts)
+    → (v : Verdict) × (after : List ℕ) × Tests p count a k extent cells v after

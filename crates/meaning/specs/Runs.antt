@@ -51,7 +51,7 @@ answer-no build-plate f = refused f
 answer-no (read-extent extent list) f = unread list f
 answer-no (play-extent extent) f = refused f
 
--- what is known from the calls made so far
+-- what is known from the calls made so far: the texts of the standing lines, whether the plate is built, what was given to the doer, and the cells of the two memories
 pub record Account : Type 0 where
   pub texts : List (List ℕ)
   pub built : Bool
@@ -63,6 +63,7 @@ pub record Account : Type 0 where
 abbrev pub Means : List ℕ → Line → Type 0
 Means t l = Formed l × (t ≡ written l)
 
+-- the lines that texts write, in order
 abbrev pub Mean : List (List ℕ) → List Line → Type 0
 Mean [] [] = Unit {0}
 Mean [] (l ∷ ls) = ⊥
@@ -73,6 +74,7 @@ Mean (t ∷ ts) (l ∷ ls) = Means t l × Mean ts ls
 abbrev pub fresh : (moves sets : List ℕ) → Account
 fresh moves sets = record { texts = []; built = false; history = []; moves = moves; sets = sets }
 
+-- the account with other lines standing, not built
 abbrev with-lines : Account → List (List ℕ) → Account
 with-lines a ts = record { texts = ts; built = false; history = a .history; moves = a .moves; sets = a .sets }
 
@@ -94,7 +96,7 @@ pub data Checks (count : ℕ) (moves sets : List ℕ) : Option Refusal → Type 
   enough : Room count moves sets → Checks count moves sets None
   too-few : (Room count moves sets → ⊥) → Checks count moves sets (Some (plain 7 3))
 
--- what an opening makes of the two memories
+-- what an opening makes of the two memories: a plate with its used cells 0, or a shut one and no change
 pub data Opens (count : ℕ) (moves sets : List ℕ) : Plate → (moves′ sets′ : List ℕ) → Type 0 where
   opens : Room count moves sets → Opens count moves sets (open-for count) (cleared moves (most-states * count)) (cleared sets (most-states * most-lines))
   stays-shut : (Room count moves sets → ⊥) → Opens count moves sets shut moves sets
@@ -114,18 +116,18 @@ pub record Text-accepted (count : ℕ) (t : List ℕ) : Type 0 where
   pub means : Means t line
   pub clear : Clash (line .expr) → ⊥
 
--- what take does with a text
+-- what take does with a text: refusal 21, then the text's own refusal, else the line is added last
 pub data Taken (count : ℕ) (a : Account) (t : List ℕ) : Answer → Account → Type 0 where
   eight : length (a .texts) ≡ most-lines → Taken count a t (refused (plain 21 3)) a
   turned-down : {f : Refusal} → length (a .texts) < most-lines → Text-refused count t f → Taken count a t (refused f) a
   added : length (a .texts) < most-lines → Text-accepted count t → Taken count a t (numbered (length (a .texts))) (with-lines a (a .texts ++ t ∷ []))
 
--- what strike does
+-- what strike does: refusal 22, else the line taken last goes
 pub data Struck (a : Account) : Answer → Account → Type 0 where
   none-stands : a .texts ≡ [] → Struck a (refused (plain 22 3)) a
   struck : (ts : List (List ℕ)) (t : List ℕ) → a .texts ≡ ts ++ t ∷ [] → Struck a (numbered (length ts)) (with-lines a ts)
 
--- what build does
+-- what build does: refusal 22, then 23 with the used cells 0, else the used cells hold the states and their moves
 pub data Built (count : ℕ) (a : Account) : Answer → Account → Type 0 where
   empty : a .texts ≡ [] → Built count a (refused (plain 22 3)) a
   large : {ls : List Line} → Mean (a .texts) ls → 0 < length ls → More-than-64 count ls → Built count a (refused (plain 23 3)) (record { texts = a .texts; built = false; history = a .history; moves = cleared (a .moves) (most-states * count); sets = cleared (a .sets) (most-states * most-lines) })

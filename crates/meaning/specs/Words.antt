@@ -7,6 +7,7 @@ use lib.ListN.{length, take, getD}
 use Rattle.meaning.specs.declared.Symbol.{Symbol}
 
 mutual
+  -- an expression: a symbol, nothing, a star, a sequence or a choice
   pub data Expr : Type 0 where
     sym : Symbol → Expr
     none : Expr
@@ -24,18 +25,21 @@ pub record Pair : Type 0 where
   pub class : ℕ
   pub code : ℕ
 
+-- a word: its pairs in order
 abbrev pub Word : Type 0
 Word = List Pair
 
+-- words joined in order
 abbrev pub all-joined : List Word → Word
 all-joined [] = []
 all-joined (w ∷ ws) = w ++ all-joined ws
 
+-- P holds of every element
 abbrev pub Each : {A : Type 0} → (A → Type 0) → List A → Type 0
 Each P [] = Unit {0}
 Each P (x ∷ xs) = P x × Each P xs
 
--- the words of an expression
+-- the words of an expression: `w` is one of them
 abbrev mutual
   pub Of : Expr → Word → Type 0
   Of (sym s) w = (c : ℕ) × (s .low ≤ c) × (c ≤ s .high) × (w ≡ record { class = c; code = s .code } ∷ [])
@@ -44,10 +48,12 @@ abbrev mutual
   Of (seq es) w = OfSeq es w
   Of (alt es) w = OfAlt es w
 
+  -- a word of each form, joined in order
   pub OfSeq : Forms → Word → Type 0
   OfSeq (one e) w = Of e w
   OfSeq (more e es) w = (u : Word) × (v : Word) × Of e u × OfSeq es v × (w ≡ u ++ v)
 
+  -- a word of some form
   pub OfAlt : Forms → Word → Type 0
   OfAlt (one e) w = Of e w
   OfAlt (more e es) w = Of e w ⊎ OfAlt es w
@@ -58,17 +64,19 @@ pub record Line : Type 0 where
   pub close-code : ℕ
   pub expr : Expr
 
+-- the classes of a word
 abbrev pub classes : Word → List ℕ
 classes w = map (λ p. p .class) w
 
+-- the codes of a word of a line: the first code, those of its pairs, the last code
 abbrev pub line-codes : Line → Word → List ℕ
 line-codes l w = l .open-code ∷ (map (λ p. p .code) w ++ l .close-code ∷ [])
 
--- a string of classes and a string of codes that the line translates it to
+-- β are the codes of a word of the line whose classes are α
 abbrev pub Translates : Line → List ℕ → List ℕ → Type 0
 Translates l α β = (w : Word) × Of (l .expr) w × (classes w ≡ α) × (line-codes l w ≡ β)
 
--- two words of one line agree in their classes through the place i, and differ in the code there
+-- two words of one expression agree in their classes through a place, and differ in the code there
 pub record Clash (e : Expr) : Type 0 where
   pub left : Word
   pub right : Word

@@ -5,8 +5,16 @@ use Prim.Native.Nat.{ℕ}
 use lib.ListN.{length, drop}
 use Rattle.meaning.specs.declared.Piece.{Piece}
 use Rattle.meaning.specs.Doers.{Given, Rule, Leads}
+use Rattle.std.specs.declared.result.Result.{Result}
+use Rattle.std.specs.declared.result.Result.the-variants.{Ok, Err}
+use Rattle.sheet.specs.declared.refusal.Refusal.{Refusal}
 use Rattle.runs.specs.declared.calling.Answer.{Answer}
 use Rattle.runs.specs.declared.calling.Answer.the-variants.{Refused, Number, Read, Played}
+
+-- what take, strike and build answer
+abbrev pub number-answer : Result ℕ Refusal → Answer
+number-answer (Ok n) = Number n
+number-answer (Err f) = Refused f
 
 -- a call with this answer gives nothing to the doer
 abbrev pub Quiet : Answer → Type 0
