@@ -14,26 +14,106 @@ struct Case {
 }
 
 static CASES: [Case; 20] = [
-    Case { code: 0, mark: 65535, taken: true },
-    Case { code: 32, mark: 47, taken: false },
-    Case { code: 32, mark: 48, taken: true },
-    Case { code: 32, mark: 57, taken: true },
-    Case { code: 32, mark: 58, taken: false },
-    Case { code: 39, mark: 53, taken: true },
-    Case { code: 40, mark: 53, taken: false },
-    Case { code: 31, mark: 53, taken: false },
-    Case { code: 15, mark: 0, taken: false },
-    Case { code: 16, mark: 0, taken: true },
-    Case { code: 23, mark: 0, taken: true },
-    Case { code: 24, mark: 0, taken: false },
-    Case { code: 47, mark: 48, taken: false },
-    Case { code: 48, mark: 0, taken: true },
-    Case { code: 48, mark: 65535, taken: true },
-    Case { code: 55, mark: 0, taken: true },
-    Case { code: 56, mark: 0, taken: false },
-    Case { code: 1, mark: 0, taken: false },
-    Case { code: 65535, mark: 48, taken: false },
-    Case { code: 32, mark: 65535, taken: false },
+    Case {
+        code: 0,
+        mark: 65535,
+        taken: true,
+    },
+    Case {
+        code: 32,
+        mark: 47,
+        taken: false,
+    },
+    Case {
+        code: 32,
+        mark: 48,
+        taken: true,
+    },
+    Case {
+        code: 32,
+        mark: 57,
+        taken: true,
+    },
+    Case {
+        code: 32,
+        mark: 58,
+        taken: false,
+    },
+    Case {
+        code: 39,
+        mark: 53,
+        taken: true,
+    },
+    Case {
+        code: 40,
+        mark: 53,
+        taken: false,
+    },
+    Case {
+        code: 31,
+        mark: 53,
+        taken: false,
+    },
+    Case {
+        code: 15,
+        mark: 0,
+        taken: false,
+    },
+    Case {
+        code: 16,
+        mark: 0,
+        taken: true,
+    },
+    Case {
+        code: 23,
+        mark: 0,
+        taken: true,
+    },
+    Case {
+        code: 24,
+        mark: 0,
+        taken: false,
+    },
+    Case {
+        code: 47,
+        mark: 48,
+        taken: false,
+    },
+    Case {
+        code: 48,
+        mark: 0,
+        taken: true,
+    },
+    Case {
+        code: 48,
+        mark: 65535,
+        taken: true,
+    },
+    Case {
+        code: 55,
+        mark: 0,
+        taken: true,
+    },
+    Case {
+        code: 56,
+        mark: 0,
+        taken: false,
+    },
+    Case {
+        code: 1,
+        mark: 0,
+        taken: false,
+    },
+    Case {
+        code: 65535,
+        mark: 48,
+        taken: false,
+    },
+    Case {
+        code: 32,
+        mark: 65535,
+        taken: false,
+    },
 ];
 
 #[test]

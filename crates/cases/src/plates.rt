@@ -47,7 +47,14 @@ fn opened() -> Result<(), Fail> {
     {
         let _plate = Plate::open::<Piece>(&mut moves, &mut sets);
     }
-    check(moves[0] == 0 && moves[575] == 0 && moves[576] == 1 && sets[0] == 0 && sets[511] == 0 && sets[512] == 1)
+    check(
+        moves[0] == 0
+            && moves[575] == 0
+            && moves[576] == 1
+            && sets[0] == 0
+            && sets[511] == 0
+            && sets[512] == 1,
+    )
 }
 
 #[test]
@@ -56,7 +63,10 @@ fn other_alphabet() -> Result<(), Fail> {
     let mut sets = [0u64; 512];
     let mut plate = Plate::open::<Piece>(&mut moves, &mut sets);
     check_eq(told(plate.take::<u8>(LINE)), (25, 0, 0))?;
-    check_eq(told(plate.take::<Piece>(b"(rule 0 0 (sym 0 9 0))")), (4, 18, 0))?;
+    check_eq(
+        told(plate.take::<Piece>(b"(rule 0 0 (sym 0 9 0))")),
+        (4, 18, 0),
+    )?;
     check_eq(told(plate.take::<Piece>(LINE)), (0, 0, 0))?;
     check_eq(told(plate.build::<u8>()), (25, 0, 0))?;
     check_eq(told(plate.build::<Piece>()), (0, 2, 0))

@@ -26,22 +26,78 @@ struct Case {
 }
 
 static CASES: [Case; 9] = [
-    Case { line: 1, extent: b"03", room: 5, answer: 100, codes: [0, 4, 5, 0, 9] },
-    Case { line: 0, extent: b"03", room: 5, answer: 0, codes: [9, 9, 9, 9, 9] },
-    Case { line: 0, extent: b"02", room: 4, answer: 100, codes: [0, 1, 3, 0, 9] },
-    Case { line: 0, extent: b"02", room: 3, answer: 10, codes: [9, 9, 9, 9, 9] },
-    Case { line: 0, extent: b"xx", room: 3, answer: 10, codes: [9, 9, 9, 9, 9] },
-    Case { line: 2, extent: b"", room: 2, answer: 100, codes: [3, 8, 9, 9, 9] },
-    Case { line: 2, extent: b"xxx", room: 5, answer: 100, codes: [3, 6, 6, 6, 8] },
-    Case { line: 3, extent: b"", room: 5, answer: 9, codes: [9, 9, 9, 9, 9] },
-    Case { line: 3, extent: b"", room: 0, answer: 9, codes: [9, 9, 9, 9, 9] },
+    Case {
+        line: 1,
+        extent: b"03",
+        room: 5,
+        answer: 100,
+        codes: [0, 4, 5, 0, 9],
+    },
+    Case {
+        line: 0,
+        extent: b"03",
+        room: 5,
+        answer: 0,
+        codes: [9, 9, 9, 9, 9],
+    },
+    Case {
+        line: 0,
+        extent: b"02",
+        room: 4,
+        answer: 100,
+        codes: [0, 1, 3, 0, 9],
+    },
+    Case {
+        line: 0,
+        extent: b"02",
+        room: 3,
+        answer: 10,
+        codes: [9, 9, 9, 9, 9],
+    },
+    Case {
+        line: 0,
+        extent: b"xx",
+        room: 3,
+        answer: 10,
+        codes: [9, 9, 9, 9, 9],
+    },
+    Case {
+        line: 2,
+        extent: b"",
+        room: 2,
+        answer: 100,
+        codes: [3, 8, 9, 9, 9],
+    },
+    Case {
+        line: 2,
+        extent: b"xxx",
+        room: 5,
+        answer: 100,
+        codes: [3, 6, 6, 6, 8],
+    },
+    Case {
+        line: 3,
+        extent: b"",
+        room: 5,
+        answer: 9,
+        codes: [9, 9, 9, 9, 9],
+    },
+    Case {
+        line: 3,
+        extent: b"",
+        room: 0,
+        answer: 9,
+        codes: [9, 9, 9, 9, 9],
+    },
 ];
 
 fn tested(case: &Case, codes: &mut [u16]) -> u8 {
     let mut moves = [0u16; 16384];
     let mut sets = [0u64; 512];
     let mut plate = Plate::open::<u8>(&mut moves, &mut sets);
-    let _ = plate.take::<u8>(b"(rule 0 0 (alt (seq (sym 48 48 1) (sym 49 49 2)) (seq (sym 48 48 1) (sym 50 50 3))))");
+    let _ = plate.take::<u8>(
+        b"(rule 0 0 (alt (seq (sym 48 48 1) (sym 49 49 2)) (seq (sym 48 48 1) (sym 50 50 3))))",
+    );
     let _ = plate.take::<u8>(b"(rule 0 0 (seq (sym 48 48 4) (sym 51 51 5)))");
     let _ = plate.take::<u8>(b"(rule 3 8 (star (sym 120 120 6)))");
     let _ = plate.build::<u8>();
@@ -76,7 +132,11 @@ fn refused_tests(rt: LibcRuntime) -> Result<(), Fail> {
     check_eq(number(test::<Piece>(&plate, 7, &[], &mut codes)), 25)
 }
 
-const NOTHING: Piece = Piece { line: 99, place: 99, len: 99 };
+const NOTHING: Piece = Piece {
+    line: 99,
+    place: 99,
+    len: 99,
+};
 
 // Reads an order as a run of pieces: number, separator, number.
 fn orders(text: &[Piece], list: &mut [Piece]) -> usize {
@@ -93,7 +153,28 @@ fn orders(text: &[Piece], list: &mut [Piece]) -> usize {
 
 #[test]
 fn pieces_as_symbols() -> Result<(), Fail> {
-    let text = [Piece { line: 0, place: 0, len: 3 }, Piece { line: 1, place: 3, len: 1 }, Piece { line: 0, place: 4, len: 2 }, Piece { line: 9, place: 6, len: 1 }];
+    let text = [
+        Piece {
+            line: 0,
+            place: 0,
+            len: 3,
+        },
+        Piece {
+            line: 1,
+            place: 3,
+            len: 1,
+        },
+        Piece {
+            line: 0,
+            place: 4,
+            len: 2,
+        },
+        Piece {
+            line: 9,
+            place: 6,
+            len: 1,
+        },
+    ];
     let mut list = [NOTHING; 2];
     check_eq(orders(&text, &mut list), 1)?;
     check(list[0].line == 0 && list[0].place == 0 && list[0].len == 3 && list[1].len == 99)

@@ -9,7 +9,11 @@ ghost use Rattle.meaning.specs.Doers.{slip-rule, slip-first};
 use crate::doer::Doer;
 
 pub const REGISTERS: usize = 8;
+
 pub const MOST_REGISTER: u64 = 999_999_999_999;
+// the marks of the digits 0 and 9
+const FIRST_DIGIT: u16 = 48;
+const LAST_DIGIT: u16 = 57;
 
 // An order slip: eight registers of at most twelve digits.
 #[derive(Clone, Copy)]
@@ -23,13 +27,19 @@ impl Slip {
     pub fn new() -> Slip
         ensures { λ r. ⌜ r .registers ≡ slip-first ⌝ }
     {
-        Slip { registers: [0; REGISTERS] }
+        Slip {
+            registers: [0; REGISTERS],
+        }
     }
 
     pub fn register(&self, r: usize) -> Option<u64>
         ensures { λ v. ⌜ v ≡ cond (ltb r 8) (Some (getD (now (self .entry) .registers) r 0)) None ⌝ }
     {
-        if r < REGISTERS { Some(self.registers[r]) } else { None }
+        if r < REGISTERS {
+            Some(self.registers[r])
+        } else {
+            None
+        }
     }
 
     // Sets a register unless the value is too large for it.
@@ -58,11 +68,11 @@ pub impl Doer for Slip as SlipDoer {
             0 => true,
             16..=23 => self.put(code as usize - 16, 0),
             32..=39 => {
-                if mark < 48 || mark > 57 {
+                if mark < FIRST_DIGIT || mark > LAST_DIGIT {
                     return false;
                 }
                 let r = code as usize - 32;
-                let value = self.registers[r] * 10 + (mark - 48) as u64;
+                let value = self.registers[r] * 10 + (mark - FIRST_DIGIT) as u64;
                 self.put(r, value)
             }
             48..=55 => {

@@ -32,12 +32,20 @@ fn give_word<A: Alphabet, D: Doer>(entry: &Entry, word: &[A], doer: &mut D) -> u
         }
         set = entry.next(set, class);
     }
-    if doer.give(entry.close(), NO_MARK) { word.len() + 2 } else { word.len() + 1 }
+    if doer.give(entry.close(), NO_MARK) {
+        word.len() + 2
+    } else {
+        word.len() + 1
+    }
 }
 
 // Finds pieces as read does and gives the codes of each to the doer. Answers the pieces played whole, the place behind them, the codes taken of a broken
 // piece, and why.
-pub fn play<A: Alphabet, D: Doer>(plate: &Plate, extent: &[A], doer: &mut D) -> Result<(usize, usize, usize, Why), Refusal>
+pub fn play<A: Alphabet, D: Doer>(
+    plate: &Plate,
+    extent: &[A],
+    doer: &mut D,
+) -> Result<(usize, usize, usize, Why), Refusal>
     ensures cases { λ r. ⌜ Cases r (λ _. Ready (A·Alphabet .count) (now (plate .entry) .desk) (length (now (extent .entry)))) (λ f. Unready (A·Alphabet .count) (now (plate .entry) .desk) (length (now (extent .entry))) f) ⌝ }
     ensures doer { λ r. ⌜ Cases r (λ a. (gs : List Given) × Leads (D·Doer .rule) (D·Doer .state (now (doer .entry))) gs (D·Doer .state (now (doer .exit)))) (λ _. now (doer .exit) ≡ now (doer .entry)) ⌝ }
     ensures bounds { λ r. ⌜ Cases r (λ a. (a .0 ≤ a .1) × (a .1 ≤ length (now (extent .entry)))) (λ _. Unit {0}) ⌝ }

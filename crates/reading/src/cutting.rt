@@ -49,11 +49,19 @@ pub fn longest<A: Alphabet>(plate: &Plate, extent: &[A], place: usize) -> Option
             len = i + 1 - place;
         }
     }
-    if len == 0 { None } else { Some(Piece { line, place, len }) }
+    if len == 0 {
+        None
+    } else {
+        Some(Piece { line, place, len })
+    }
 }
 
 // Cuts an extent into pieces, which it writes into the list, and answers the pieces listed, the place reached and why.
-pub fn read<A: Alphabet>(plate: &Plate, extent: &[A], list: &mut [Piece]) -> Result<(usize, usize, Why), Refusal>
+pub fn read<A: Alphabet>(
+    plate: &Plate,
+    extent: &[A],
+    list: &mut [Piece],
+) -> Result<(usize, usize, Why), Refusal>
     ensures cases { λ r. ⌜ Cases r (λ _. Ready (A·Alphabet .count) (now (plate .entry) .desk) (length (now (extent .entry)))) (λ f. Unready (A·Alphabet .count) (now (plate .entry) .desk) (length (now (extent .entry))) f) ⌝ }
     ensures list { λ r. ⌜ Cases r (λ a. (a .0 ≤ length (now (list .entry))) × (a .1 ≤ length (now (extent .entry))) × (drop (a .0) (now (list .exit)) ≡ drop (a .0) (now (list .entry)))) (λ _. now (list .exit) ≡ now (list .entry)) ⌝ }
 {

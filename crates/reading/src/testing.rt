@@ -34,7 +34,12 @@ fn write_codes<A: Alphabet>(entry: &Entry, extent: &[A], codes: &mut [u16])
 }
 
 // Whether the classes of the whole extent are those of a word of the line; if so its codes are written.
-pub fn test<A: Alphabet>(plate: &Plate, line: usize, extent: &[A], codes: &mut [u16]) -> Result<bool, Refusal>
+pub fn test<A: Alphabet>(
+    plate: &Plate,
+    line: usize,
+    extent: &[A],
+    codes: &mut [u16],
+) -> Result<bool, Refusal>
     ensures cases { λ r. ⌜ Cases r (λ _. Ready (A·Alphabet .count) (now (plate .entry) .desk) (length (now (extent .entry))) × (line < now (plate .entry) .desk .standing) × (length (now (extent .entry)) + 2 ≤ length (now (codes .entry)))) (λ f. Untested (A·Alphabet .count) (now (plate .entry) .desk) (length (now (extent .entry))) line (length (now (codes .entry))) f) ⌝ }
     ensures codes { λ r. ⌜ Cases r (λ w. cond w (drop (length (now (extent .entry)) + 2) (now (codes .exit)) ≡ drop (length (now (extent .entry)) + 2) (now (codes .entry))) (now (codes .exit) ≡ now (codes .entry))) (λ _. now (codes .exit) ≡ now (codes .entry)) ⌝ }
 {

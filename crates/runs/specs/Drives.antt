@@ -1,13 +1,15 @@
 -- What the calls of a run give to its doer. Assumes nothing.
 use mathlib.Core.Path.{_≡_}
 use mathlib.Core.List.{List, [], _∷_, _++_}
-use Prim.Native.Nat.{ℕ}
+use Prim.Native.Nat.{ℕ, min}
 use lib.ListN.{length, drop}
 use Rattle.meaning.specs.declared.Piece.{Piece}
 use Rattle.meaning.specs.Doers.{Given, Rule, Leads}
 use Rattle.std.specs.declared.result.Result.{Result}
 use Rattle.std.specs.declared.result.Result.the-variants.{Ok, Err}
 use Rattle.sheet.specs.declared.refusal.Refusal.{Refusal}
+use Rattle.runs.specs.declared.calling.Call.{Call}
+use Rattle.runs.specs.declared.calling.Call.the-variants.{Take, Strike, Build, Read as Reads, Play}
 use Rattle.runs.specs.declared.calling.Answer.{Answer}
 use Rattle.runs.specs.declared.calling.Answer.the-variants.{Refused, Number, Read, Played}
 
@@ -40,3 +42,11 @@ Kept-list (Refused f) before after = after ≡ before
 Kept-list (Number n) before after = after ≡ before
 Kept-list (Read pieces place why) before after = drop pieces after ≡ drop pieces before
 Kept-list (Played pieces place codes why) before after = after ≡ before
+
+-- how many cells of the lists a call takes where `left` are left: a read those that it asks for, if there are as many
+abbrev pub cells-of : {A : Type 0} → Call A → (left : ℕ) → ℕ
+cells-of (Take line) left = 0
+cells-of Strike left = 0
+cells-of Build left = 0
+cells-of (Reads extent room) left = min room left
+cells-of (Play extent) left = 0

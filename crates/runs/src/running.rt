@@ -6,7 +6,7 @@ ghost use lib.ListN.{length, take, drop};
 ghost use Rattle.meaning.specs.Runs.{Room};
 ghost use Rattle.plate.specs.Cells.{Beyond};
 ghost use Rattle.meaning.specs.declared.Piece.{Piece as Listed};
-ghost use Rattle.runs.specs.Drives.{number-answer, Quiet, Gave, Drives, Kept-list};
+ghost use Rattle.runs.specs.Drives.{number-answer, Quiet, Gave, Drives, Kept-list, cells-of};
 use crate::calling::Answer;
 use crate::calling::Call;
 use doers::Doer;
@@ -49,7 +49,12 @@ fn play_to<A: Alphabet, D: Doer>(plate: &Plate, extent: &[A], doer: &mut D) -> A
 }
 
 // Makes one call; a read writes into the list.
-fn make<A: Alphabet, D: Doer>(plate: &mut Plate, doer: &mut D, call: &Call<'_, A>, list: &mut [Piece]) -> Answer
+fn make<A: Alphabet, D: Doer>(
+    plate: &mut Plate,
+    doer: &mut D,
+    call: &Call<'_, A>,
+    list: &mut [Piece],
+) -> Answer
     ensures gave { λ r. ⌜ Gave (D·Doer .rule) (D·Doer .state (now (doer .entry))) r (D·Doer .state (now (doer .exit))) ⌝ }
     ensures list { λ r. ⌜ Kept-list r (now (list .entry)) (now (list .exit)) ⌝ }
     ensures counted { λ _. ⌜ now (plate .exit) .desk .count ≡ now (plate .entry) .desk .count ⌝ }
@@ -69,7 +74,8 @@ fn make<A: Alphabet, D: Doer>(plate: &mut Plate, doer: &mut D, call: &Call<'_, A
 
 // How many cells of the lists a call takes of those that are left.
 fn room<A>(call: &Call<'_, A>, left: usize) -> usize
-    ensures { λ r. ⌜ r ≤ left ⌝ }
+    ensures value { λ r. ⌜ r ≡ cells-of (now (call .entry)) left ⌝ }
+    ensures within { λ r. ⌜ r ≤ left ⌝ }
 {
     match *call {
         Call::Read(_, room) => room.min(left),
@@ -95,16 +101,12 @@ pub fn run<A: Alphabet, D: Doer>(
     ensures shut { λ _. ⌜ ((Room (A·Alphabet .count) (now (moves .entry)) (now (sets .entry)) → ⊥) → (now (moves .exit) ≡ now (moves .entry)) × (now (sets .exit) ≡ now (sets .entry))) ⌝ }
 {
     let mut plate = Plate::open::<A>(moves, sets);
-    let mut made = 0;
+    let made = calls.len().min(answers.len());
     let mut used = 0;
-    for call in calls {
-        if made >= answers.len() {
-            break;
-        }
+    for i in 0..made {
+        let call = &calls[i];
         let end = used + room(call, lists.len() - used);
-        let answer = make(&mut plate, doer, call, &mut lists[used..end]);
-        answers[made] = answer;
-        made += 1;
+        answers[i] = make(&mut plate, doer, call, &mut lists[used..end]);
         used = end;
     }
     made

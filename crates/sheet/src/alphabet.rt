@@ -52,6 +52,10 @@ pub impl Alphabet for Piece as Pieces {
     }
 
     fn class(&self) -> usize {
-        if self.line < MOST_LINES { self.line } else { MOST_LINES }
+        if self.line < MOST_LINES {
+            self.line
+        } else {
+            MOST_LINES
+        }
     }
 }

@@ -25,7 +25,13 @@ impl Entry {
     // The record of `(rule 0 0 (none))`, which stands where a plate has no line.
     pub fn blank() -> Entry {
         let text = b"(rule 0 0 (none))";
-        Entry { text: copied(text), len: text.len(), opening: 0, closing: 0, sets: Sets::new(Draft::new(), true, 0, 0) }
+        Entry {
+            text: copied(text),
+            len: text.len(),
+            opening: 0,
+            closing: 0,
+            sets: Sets::new(Draft::new(), true, 0, 0),
+        }
     }
 
     // The line that a text writes.
@@ -40,7 +46,13 @@ impl Entry {
         let sets = Sets::new(parsed.draft, part.nullable, part.first, part.last);
         match sets.clash() {
             Some((p, q)) => Err(Refusal::Clash { p, q }),
-            None => Ok(Entry { text: copied(text), len: text.len(), opening: parsed.open, closing: parsed.close, sets }),
+            None => Ok(Entry {
+                text: copied(text),
+                len: text.len(),
+                opening: parsed.open,
+                closing: parsed.close,
+                sets,
+            }),
         }
     }
 

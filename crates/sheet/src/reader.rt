@@ -52,9 +52,19 @@ pub fn parse(text: &[u8], classes: usize) -> Result<Parsed, Refusal>
     requires { ⌜ classes ≤ 256 ⌝ }
     ensures { λ r. ⌜ ByOk r (λ _. Unit {0}) (λ f. reported f .layer ≡ 1) ⌝ }
 {
-    let mut reader = Reader { text, at: 0, classes, draft: Draft::new() };
+    let mut reader = Reader {
+        text,
+        at: 0,
+        classes,
+        draft: Draft::new(),
+    };
     let (open, close, part) = reader.line()?;
-    Ok(Parsed { open, close, part, draft: reader.draft })
+    Ok(Parsed {
+        open,
+        close,
+        part,
+        draft: reader.draft,
+    })
 }
 
 impl Reader<'_> {
@@ -62,7 +72,11 @@ impl Reader<'_> {
     fn next(&self) -> Option<char>
         ensures { λ r. ⌜ BySome r (length (now (now (self .entry) .text)) ≤ now (self .entry) .at) (λ c. (now (self .entry) .at < length (now (now (self .entry) .text))) × (c ≡ getD (now (now (self .entry) .text)) (now (self .entry) .at) 0)) ⌝ }
     {
-        if self.at < self.text.len() { Some(self.text[self.at] as char) } else { None }
+        if self.at < self.text.len() {
+            Some(self.text[self.at] as char)
+        } else {
+            None
+        }
     }
 
     // Goes on behind the next byte.
@@ -245,7 +259,11 @@ impl Reader<'_> {
                 let part = self.form(levels)?;
                 self.expect(')')?;
                 self.draft.link(part.last, part.first);
-                Ok(Part { nullable: true, first: part.first, last: part.last })
+                Ok(Part {
+                    nullable: true,
+                    first: part.first,
+                    last: part.last,
+                })
             }
             _ => Err(self.bad_form()),
         }
@@ -282,8 +300,16 @@ impl Reader<'_> {
                 self.draft.link(one.last, rest.first);
                 Part {
                     nullable: one.nullable && rest.nullable,
-                    first: if one.nullable { one.first | rest.first } else { one.first },
-                    last: if rest.nullable { one.last | rest.last } else { rest.last },
+                    first: if one.nullable {
+                        one.first | rest.first
+                    } else {
+                        one.first
+                    },
+                    last: if rest.nullable {
+                        one.last | rest.last
+                    } else {
+                        rest.last
+                    },
                 }
             }
             Join::Alt => Part {
@@ -304,7 +330,11 @@ impl Reader<'_> {
         self.expect('n')?;
         self.expect('e')?;
         self.expect(')')?;
-        Ok(Part { nullable: true, first: 0, last: 0 })
+        Ok(Part {
+            nullable: true,
+            first: 0,
+            last: 0,
+        })
     }
 
     // What stands behind `(sy`.
@@ -325,7 +355,11 @@ impl Reader<'_> {
         self.expect(' ')?;
         let symbol = self.range()?;
         let position = self.draft.add(symbol);
-        Ok(Part { nullable: false, first: position, last: position })
+        Ok(Part {
+            nullable: false,
+            first: position,
+            last: position,
+        })
     }
 
     // LO, HI and CODE, up to the bracket behind them.

@@ -4,20 +4,21 @@ ghost use lib.ListN.{length};
 use doers::Tape;
 use doers::TapeDoer;
 use meaning::Piece;
-use runs::Answer;
-use runs::Call;
-use runs::run;
-use sheet::Bytes;
 use positions::LONGEST_EXTENT;
 use positions::MOST_CLASSES;
 use positions::MOST_LINES;
 use positions::MOST_STATES;
+use runs::Answer;
+use runs::Call;
+use runs::run;
+use sheet::Bytes;
 use std::alloc::AllocError;
 use std::alloc::Global;
 use std::io;
 use std::io::Read;
 
 const MOST_INPUT: usize = 60_000;
+
 const LIST: usize = 2_048;
 // the codes of the listed pieces: a piece has two more than it has symbols
 const TAPE: usize = LONGEST_EXTENT + 2 * LIST;
@@ -66,7 +67,11 @@ fn calls(heap: Global, input: &[u8]) -> Result<(Vec<Call<'_, u8>>, usize), Alloc
         calls.push(Call::Take(&input[start..end]))?;
         start = if end < input.len() { end + 1 } else { end };
     }
-    let extent = if start < input.len() { &input[start + 1..] } else { &input[input.len()..] };
+    let extent = if start < input.len() {
+        &input[start + 1..]
+    } else {
+        &input[input.len()..]
+    };
     let lines = calls.len();
     calls.push(Call::Build)?;
     calls.push(Call::Read(extent, LIST))?;
@@ -78,8 +83,15 @@ fn calls(heap: Global, input: &[u8]) -> Result<(Vec<Call<'_, u8>>, usize), Alloc
 fn print_pieces(rt: &LibcRuntime, pieces: &[Piece], tape: &[u16]) -> io::Result<()> {
     let mut at = 0usize;
     for piece in pieces {
-        let end = tape.len().min(at.saturating_add(piece.len).saturating_add(2));
-        let mut text = format!(rt.alloc(), "piece {} {} {}", piece.line, piece.place, piece.len)?;
+        let end = tape.len()
+            .min(at.saturating_add(piece.len).saturating_add(2));
+        let mut text = format!(
+            rt.alloc(),
+            "piece {} {} {}",
+            piece.line,
+            piece.place,
+            piece.len
+        )?;
         for code in &tape[at..end] {
             text.push_str(format!(rt.alloc(), " {code}")?.as_str())?;
         }
@@ -90,13 +102,24 @@ fn print_pieces(rt: &LibcRuntime, pieces: &[Piece], tape: &[u16]) -> io::Result<
 }
 
 // The first refusal, or the pieces and where they end.
-fn print_answers(rt: &LibcRuntime, answers: &[Answer], lines: usize, list: &[Piece], tape: &[u16]) -> io::Result<()> {
+fn print_answers(
+    rt: &LibcRuntime,
+    answers: &[Answer],
+    lines: usize,
+    list: &[Piece],
+    tape: &[u16],
+) -> io::Result<()> {
     for (made, answer) in answers.iter().enumerate() {
         match *answer {
             Answer::Refused(refusal) => {
                 let taken = made.min(lines);
                 let (one, two) = refusal.details();
-                return println!(rt, "refused {taken} {} {} {one} {two}", refusal.number(), refusal.layer());
+                return println!(
+                    rt,
+                    "refused {taken} {} {} {one} {two}",
+                    refusal.number(),
+                    refusal.layer()
+                );
             }
             Answer::Read(pieces, place, why) => {
                 if pieces <= list.len() {
@@ -116,10 +139,21 @@ fn main(rt: LibcRuntime) -> io::Result<()> {
     let (calls, lines) = calls(heap, &input)?;
     let mut moves = vec![in heap; 0u16; MOST_STATES * MOST_CLASSES]?;
     let mut sets = vec![in heap; 0u64; MOST_STATES * MOST_LINES]?;
-    let mut list = vec![in heap; Piece { line: 0, place: 0, len: 0 }; LIST]?;
+    let mut list = vec![in heap; Piece {
+        line: 0,
+        place: 0,
+        len: 0
+    }; LIST]?;
     let mut answers = vec![in heap; Answer::Number(0); calls.len()]?;
     let mut cells = vec![in heap; 0u16; TAPE]?;
     let mut tape = Tape::new(&mut cells);
-    run(&mut moves, &mut sets, &mut tape, &calls, &mut list, &mut answers);
+    run(
+        &mut moves,
+        &mut sets,
+        &mut tape,
+        &calls,
+        &mut list,
+        &mut answers,
+    );
     print_answers(&rt, &answers, lines, &list, &cells)
 }

@@ -14,8 +14,8 @@ pub returns-then-not-give-2 : need.returns-then-not-give-2
 returns-then-not-give-2 g c =
     record {
       given =
-        driven-on 1 (c .loop-i .i) (c .loop-i .i + 1) (omega arith) (driven-one _ _ _ (c .if-not-give .left) (c .give .ensures))
-        (driven-on (c .loop-i .i) 0 (c .loop-i .i) (omega arith) (c .loop-i .inv) (driven-not _ _ _ (c .if-not-give-2 .taken) (c .give-in-loop-i .ensures)));
+          driven-on 1 (c .loop-i .i) (c .loop-i .i + 1) (omega arith) (driven-one _ _ _ (c .if-not-give .left) (c .give .ensures))
+          (driven-on (c .loop-i .i) 0 (c .loop-i .i) (omega arith) (c .loop-i .inv) (driven-not _ _ _ (c .if-not-give-2 .taken) (c .give-in-loop-i .ensures)));
       bound = omega arith;
     }
 
@@ -26,8 +26,8 @@ pub returns-then-give : need.returns-then-give
 returns-then-give g c =
     record {
       given =
-        driven-on 1 (c .loop-i .i + 1) (length (c .args .word .now) + 2) (omega arith) (driven-one _ _ _ (c .if-not-give .left) (c .give .ensures))
-        (driven-on (c .loop-i .i) 1 (c .loop-i .i + 1) (omega arith) (c .loop-i .inv) (driven-one _ _ _ (c .if-give .taken) (c .give-2 .ensures)));
+          driven-on 1 (c .loop-i .i + 1) (length (c .args .word .now) + 2) (omega arith) (driven-one _ _ _ (c .if-not-give .left) (c .give .ensures))
+          (driven-on (c .loop-i .i) 1 (c .loop-i .i + 1) (omega arith) (c .loop-i .inv) (driven-one _ _ _ (c .if-give .taken) (c .give-2 .ensures)));
       bound = omega arith;
     }
 
@@ -35,7 +35,7 @@ pub returns-else-give : need.returns-else-give
 returns-else-give g c =
     record {
       given =
-        driven-on 1 (c .loop-i .i) (length (c .args .word .now) + 1) (omega arith) (driven-one _ _ _ (c .if-not-give .left) (c .give .ensures))
-        (driven-on (c .loop-i .i) 0 (c .loop-i .i) (omega arith) (c .loop-i .inv) (driven-not _ _ _ (c .if-give .left) (c .give-2 .ensures)));
+          driven-on 1 (c .loop-i .i) (length (c .args .word .now) + 1) (omega arith) (driven-one _ _ _ (c .if-not-give .left) (c .give .ensures))
+          (driven-on (c .loop-i .i) 0 (c .loop-i .i) (omega arith) (c .loop-i .inv) (driven-not _ _ _ (c .if-give .left) (c .give-2 .ensures)));
       bound = omega arith;
     }

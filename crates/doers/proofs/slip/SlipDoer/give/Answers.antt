@@ -14,13 +14,13 @@ returns-in-16-to-23 c =
     put-does _ _ (c .args .code) (c .args .mark) _ 0 _ (rule-clear (c .args .self .now .registers) (c .args .code) (c .args .mark) (omega arith) (omega arith)) (c .put .ensures .taken)
     (c .put .ensures .registers)
 
-pub returns-then-mark-lt48 : need.returns-then-mark-lt48
-returns-then-mark-lt48 c = left (rule-no-digit (c .args .self .now .registers) (c .args .code) (c .args .mark) (omega arith) (omega arith) (λ h k. omega (arith, c .then-mark-lt48 .either)))
+pub returns-then-mark-lt-FIRST-DIGIT : need.returns-then-mark-lt-FIRST-DIGIT
+returns-then-mark-lt-FIRST-DIGIT c = left (rule-no-digit (c .args .self .now .registers) (c .args .code) (c .args .mark) (omega arith) (omega arith) (λ h k. omega (arith, c .then-mark-lt-FIRST-DIGIT .either)))
 
-pub returns-else-mark-gt57 : need.returns-else-mark-gt57
-returns-else-mark-gt57 c =
+pub returns-else-mark-gt-LAST-DIGIT : need.returns-else-mark-gt-LAST-DIGIT
+returns-else-mark-gt-LAST-DIGIT c =
     put-does _ _ (c .args .code) (c .args .mark) _ _ _
-    (rule-digit (c .args .self .now .registers) (c .args .code) (c .args .mark) (omega arith) (omega arith) (c .if-mark-lt48 .left) (c .if-mark-gt57 .left))
+    (rule-digit (c .args .self .now .registers) (c .args .code) (c .args .mark) (omega arith) (omega arith) (c .if-mark-lt-FIRST-DIGIT .left) (c .if-mark-gt-LAST-DIGIT .left))
     (c .put-in-32-to-39 .ensures .taken) (c .put-in-32-to-39 .ensures .registers)
 
 pub returns-in-48-to-55 : need.returns-in-48-to-55
