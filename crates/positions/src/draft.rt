@@ -1,7 +1,8 @@
 ghost use Prim.Native.Nat.{ℕ, _+_, _^_, _<_, _≤_};
 ghost use mathlib.Core.Path.{_≡_};
 ghost use lib.Dec.{leb};
-ghost use lib.ListN.{set, replicate};
+ghost use mathlib.Core.List.{[], _∷_, _++_};
+ghost use lib.ListN.{take, set, replicate};
 ghost use Rattle.positions.specs.Masks.{Linked};
 use crate::limits::*;
 use meaning::Symbol;
@@ -44,6 +45,7 @@ impl Draft {
         ensures position { λ r. ⌜ (now (self .entry) .count < 63 → r ≡ 2 ^ now (self .entry) .count) ⌝ }
         ensures count { λ _. ⌜ (now (self .entry) .count < 63 → now (self .exit) .count ≡ now (self .entry) .count + 1) ⌝ }
         ensures symbols { λ _. ⌜ (now (self .entry) .count < 63 → now (self .exit) .symbols ≡ set (now (self .entry) .symbols) (now (self .entry) .count) symbol) ⌝ }
+        ensures taken { λ _. ⌜ (now (self .entry) .count < 63 → take (now (self .entry) .count + 1) (now (self .exit) .symbols) ≡ take (now (self .entry) .count) (now (self .entry) .symbols) ++ symbol ∷ []) ⌝ }
         ensures follow { λ _. ⌜ now (self .exit) .follow ≡ now (self .entry) .follow ⌝ }
     {
         let at = self.count;

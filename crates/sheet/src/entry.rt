@@ -1,4 +1,7 @@
 ghost use Prim.Native.Nat.{_≤_};
+ghost use lib.ListN.{take};
+ghost use Rattle.meaning.specs.Words.{Line};
+ghost use Rattle.sheet.specs.Records.{Records};
 use positions::MOST_BYTES;
 use positions::Sets;
 
@@ -10,5 +13,7 @@ pub struct Entry {
     pub(crate) opening: u16,
     pub(crate) closing: u16,
     pub(crate) sets: Sets,
+    ghost some: { 1 ≤ len },
     ghost short: { len ≤ 1024 },
+    ghost is: { ∥ ((l : Line) × Records l (take len text) opening closing sets) ∥₁ },
 }

@@ -3,6 +3,8 @@
 mod alphabet;
 mod entry;
 mod line;
+mod parse;
+mod parts;
 mod reader;
 mod refusal;
 
