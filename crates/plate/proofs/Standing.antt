@@ -1,5 +1,5 @@
 -- The table of line records as lines are taken and struck, and cells as they are cleared.
-use mathlib.Core.Path.{_≡_, refl, sym, ap, subst, _∙_}
+use mathlib.Core.Path.{_≡_, refl, sym, ap, ap₂, subst, subst₂, _∙_}
 use mathlib.Core.Bool.{Bool, false}
 use mathlib.Core.List.{List, [], _∷_, _++_, map, append-assoc}
 use Prim.Native.Nat.{ℕ, zero, suc, _+_, _-_, _<_, _≤_}
@@ -9,10 +9,12 @@ use lib.ListN.{length, take, drop, set, replicate, length-map, length-replicate,
 use lib.Seq.{drop-cons, set-at, length-take-le}
 use Rattle.std.proofs.shelf.Lists.{take-more-set, map-append, replicate-more, drop-at, drop-set-lt}
 use Rattle.meaning.specs.Doers.{Given}
-use Rattle.meaning.specs.Runs.{numbered, Struck, struck, cleared}
+use Rattle.meaning.specs.Runs.{Account, Refusal, plain, refused, numbered, Text-refused, Text-accepted, Taken, eight, turned-down, added, Struck, struck, cleared}
 use Rattle.sheet.specs.declared.entry.Entry.{Entry}
 use Rattle.sheet.specs.Entries.{text-of}
-use Rattle.plate.specs.Cells.{Beyond}
+use Rattle.plate.specs.declared.desk.Desk.{Desk}
+use Rattle.plate.specs.Desks.{texts-of}
+use Rattle.plate.specs.Cells.{Beyond, Same-lines}
 
 -- the element behind the first i
 pub take-one-more : {X : Type 0} (xs : List X) (i : ℕ) → i < length xs → (x : X) × (take (suc i) xs ≡ take i xs ++ x ∷ [])
@@ -65,6 +67,24 @@ cleared-written xs ys zs n m h e s b =
 pub cleared-again : (xs ys zs : List ℕ) (n m : ℕ) → Beyond n xs ys → zs ≡ cleared ys m → m ≡ n → zs ≡ cleared xs n
 cleared-again xs ys zs n m b e s = e ∙ ap (λ k. cleared ys k) s ∙ ap (λ r. replicate n 0 ++ r) (b .1)
 
+-- what take does where eight lines stand, where the text is refused, and else
+module _ (count : ℕ) (es : List Entry) (n : ℕ) (b : Bool) (h : List Given) (moves sets : List ℕ) (t : List ℕ) (fits : n ≤ length es) where
+  -- what is known before the call
+  abbrev before : Account
+  before = record { texts = map text-of (take n es); built = b; history = h; moves = moves; sets = sets }
+
+  pub taken-eight : n ≡ 8 → Taken count before t (refused (plain 21 3)) before
+  taken-eight e = eight (texts-length es n fits ∙ e)
+
+  pub taken-refused : n < 8 → (f : Refusal) → Text-refused count t f → Taken count before t (refused f) before
+  taken-refused k f r = turned-down (omega (arith, texts-length es n fits)) r
+
+  pub taken-added : n < 8 → n < length es → (e : Entry) → text-of e ≡ t → Text-accepted count t
+      → Taken count before t (numbered n) (record { texts = map text-of (take (n + 1) (set es n e)); built = false; history = h; moves = moves; sets = sets })
+  taken-added k o e same a =
+      subst₂ (λ m ts. Taken count before t (numbered m) (record { texts = ts; built = false; history = h; moves = moves; sets = sets })) (texts-length es n fits)
+      (ap (λ u. map text-of (take n es) ++ u ∷ []) (sym same) ∙ sym (texts-added es n e o)) (added (omega (arith, texts-length es n fits)) a)
+
 -- what strike does where a line stands
 pub struck-last : (es : List Entry) (n : ℕ) (b : Bool) (h : List Given) (moves sets : List ℕ) → 0 < n → n ≤ length es
     → Struck (record { texts = map text-of (take n es); built = b; history = h; moves = moves; sets = sets }) (numbered (n - 1))
@@ -79,3 +99,7 @@ struck-last es n b h moves sets some fits =
     (λ k. Struck (record { texts = map text-of (take n es); built = b; history = h; moves = moves; sets = sets }) (numbered k)
     (record { texts = map text-of (take (n - 1) es); built = false; history = h; moves = moves; sets = sets }))
     (texts-length es (n - 1) (omega arith)) (struck (map text-of (take (n - 1) es)) (text-of x) last)
+
+-- the texts of an unchanged table of lines
+pub texts-same : (d e : Desk) → Same-lines d e → texts-of e ≡ texts-of d
+texts-same d e s = ap₂ (λ n es. map text-of (take n es)) (s .1) (s .0)

@@ -2,8 +2,8 @@
 use mathlib.Core.Path.{_≡_}
 use mathlib.Core.Bool.{true, false}
 use mathlib.Core.List.{List}
-use Prim.Native.Nat.{ℕ, zero, suc, _<_}
-use lib.ListN.{length, drop}
+use Prim.Native.Nat.{ℕ, zero, suc, _<_, _≤_}
+use lib.ListN.{length, getD, drop}
 use Rattle.std.specs.declared.option.Option.{Option}
 use Rattle.std.specs.declared.option.Option.the-variants.{Some, None}
 use Rattle.sheet.specs.declared.refusal.Refusal.{Refusal}
@@ -13,6 +13,10 @@ use Rattle.plate.specs.declared.desk.Desk.{Desk}
 -- as many cells as before, and those from `used` on as they were
 abbrev pub Beyond : (used : ℕ) → (before after : List ℕ) → Type 0
 Beyond used before after = (length after ≡ length before) × (drop used after ≡ drop used before)
+
+-- `after` has the values of f below k, and from k on what `before` has
+abbrev pub Turned : (k : ℕ) → (after : List ℕ) → (f : ℕ → ℕ) → (before : List ℕ) → Type 0
+Turned k after f before = ((j : ℕ) → j < k → getD after j 0 ≡ f j) × ((j : ℕ) → k ≤ j → getD after j 0 ≡ getD before j 0)
 
 -- the table of lines, how many stand, and the count, as they were
 abbrev pub Same-lines : (before after : Desk) → Type 0

@@ -1,2 +1,4 @@
 pub mod Desks
 pub mod Cells
+pub mod Tables
+pub mod Filling

@@ -16,4 +16,5 @@ pub struct Desk {
     // for each state, the earliest line that has a word there
     pub accepts: [Option<usize>; MOST_STATES],
     ghost full: { length entries ≡ 8 },
+    ghost numbered: { length accepts ≡ 64 },
 }

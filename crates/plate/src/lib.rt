@@ -3,10 +3,13 @@
 mod build;
 mod cells;
 mod desk;
+mod fill;
 mod lines;
 mod numbering;
+mod numbers;
 mod open;
 mod plate;
+mod steps;
 mod table;
 
 pub use desk::Desk;

@@ -1,6 +1,7 @@
 // The states of a plate as they are met, each with its number.
-ghost use Prim.Native.Nat.{_<_, _≤_};
-ghost use Rattle.std.specs.Options.{Cases};
+ghost use Prim.Native.Nat.{_≤_};
+ghost use mathlib.Core.Path.{_≡_};
+ghost use lib.ListN.{length};
 use positions::MOST_LINES;
 use positions::MOST_STATES;
 
@@ -13,42 +14,6 @@ pub const NOWHERE: State = [0; MOST_LINES];
 pub struct Numbering {
     pub states: [State; MOST_STATES],
     pub met: usize,
-    ghost some: { 1 ≤ met },
     ghost few: { met ≤ 64 },
-}
-
-impl Numbering {
-    // The start is state 0.
-    pub fn new(start: State) -> Numbering {
-        let mut states = [NOWHERE; MOST_STATES];
-        states[0] = start;
-        Numbering { states, met: 1 }
-    }
-
-    fn find(&self, state: State) -> Option<usize>
-        ensures { λ r. ⌜ Cases r (Unit {0}) (λ s. s < now (self .entry) .met) ⌝ }
-    {
-        for s in 0..self.met {
-            if self.states[s] == state {
-                return Some(s);
-            }
-        }
-        None
-    }
-
-    // The number of a state, which is met now if it was not before; none where the plate has no number for it.
-    pub fn number(&mut self, state: State) -> Option<usize>
-        ensures { λ r. ⌜ Cases r (Unit {0}) (λ s. s < now (self .exit) .met) ⌝ }
-    {
-        if let Some(s) = self.find(state) {
-            return Some(s);
-        }
-        let s = self.met;
-        if s >= MOST_STATES {
-            return None;
-        }
-        self.states[s] = state;
-        self.met = s + 1;
-        Some(s)
-    }
+    ghost full: { length states ≡ 64 },
 }

@@ -1,14 +1,12 @@
-ghost use Prim.Native.Nat.{ℕ, _+_, _*_, _<_, _≤_};
+ghost use Prim.Native.Nat.{ℕ, _*_, _<_};
 ghost use mathlib.Core.Path.{_≡_};
 ghost use mathlib.Core.Bool.{false};
-ghost use mathlib.Core.List.{List, [], _∷_, _++_};
+ghost use mathlib.Core.List.{List, []};
 ghost use denote.Ref.{name};
-ghost use lib.ListN.{length, drop, replicate};
 ghost use Rattle.std.specs.Results.{Cases};
 ghost use Rattle.std.specs.declared.result.Result.the-variants.{Ok, Err};
 ghost use Rattle.meaning.specs.Doers.{Given};
-ghost use Rattle.meaning.specs.Runs.{Room, Struck, cleared};
-ghost use Rattle.sheet.specs.Refusals.{reported};
+ghost use Rattle.meaning.specs.Runs.{Room, Taken, Struck, cleared};
 ghost use Rattle.plate.specs.Desks.{texts-of, account-of, answer-of};
 use crate::cells::clear;
 use crate::desk::Desk;
@@ -56,9 +54,8 @@ impl<'m> Plate<'m> {
     // Adds a line and answers its number.
     pub fn take<A: Alphabet>(&mut self, line: &[u8]) -> Result<usize, Refusal>
         ensures away { λ r. ⌜ ((now (self .entry) .desk .count ≡ A·Alphabet .count → ⊥) → r ≡ Err Refusal.NotOpen) ⌝ }
-        ensures eight { λ r. ⌜ (now (self .entry) .desk .count ≡ A·Alphabet .count → length (texts-of (now (self .entry) .desk)) ≡ 8 → r ≡ Err Refusal.EightLines) ⌝ }
-        ensures text { λ r. ⌜ (now (self .entry) .desk .count ≡ A·Alphabet .count → length (texts-of (now (self .entry) .desk)) < 8 → Cases r (λ _. Unit {0}) (λ f. reported f .layer ≤ 2)) ⌝ }
-        ensures added { λ r. ⌜ Cases r (λ n. (n ≡ length (texts-of (now (self .entry) .desk))) × (texts-of (now (self .exit) .desk) ≡ texts-of (now (self .entry) .desk) ++ now (line .entry) ∷ []) × (now (self .exit) .desk .built ≡ false)) (λ _. now (self .exit) .desk ≡ now (self .entry) .desk) ⌝ }
+        ensures taken { λ r. ⌜ (now (self .entry) .desk .count ≡ A·Alphabet .count → (moves sets : List ℕ) (h : List Given) → Taken (A·Alphabet .count) (account-of (now (self .entry) .desk) moves sets h) (now (line .entry)) (answer-of r) (account-of (now (self .exit) .desk) moves sets h)) ⌝ }
+        ensures refused { λ r. ⌜ Cases r (λ _. now (self .exit) .desk .built ≡ false) (λ _. now (self .exit) .desk ≡ now (self .entry) .desk) ⌝ }
         ensures counted { λ _. ⌜ now (self .exit) .desk .count ≡ now (self .entry) .desk .count ⌝ }
         ensures cells { λ _. ⌜ (now (now (self .exit) .moves) ≡ now (now (self .entry) .moves)) × (now (now (self .exit) .sets) ≡ now (now (self .entry) .sets)) ⌝ }
         ensures names { λ _. ⌜ (name (now (self .exit) .moves) ≡ name (now (self .entry) .moves)) × (name (now (self .exit) .sets) ≡ name (now (self .entry) .sets)) ⌝ }

@@ -1,20 +1,15 @@
 use mathlib.Core.Path.{_≡_}
 use denote.Ref.{name}
-use Rattle.plate.specs.Cells.{Beyond, Same-lines}
+use lib.ListN.{length}
+use Rattle.plate.specs.Cells.{Turned}
+use Rattle.plate.specs.Filling.{set-at}
 use Rattle.plate.proofs.open.Plate.fill_sets.Given as given
 
-abbrev pub Inv-loop-s : given.InvT-loop-s
-Inv-loop-s l =
-    Beyond 512 (l .entry .self .sets .now) (l .self .sets .now)
-    × (l .self .moves .now ≡ l .entry .self .moves .now)
-    × Same-lines (l .entry .self .desk) (l .self .desk)
-    × (name (l .self .moves) ≡ name (l .entry .self .moves))
-    × (name (l .self .sets) ≡ name (l .entry .self .sets))
-
-abbrev pub Inv-loop-k : given.InvT-loop-k
-Inv-loop-k l =
-    Beyond 512 (l .entry .self .sets .now) (l .self .sets .now)
-    × (l .self .moves .now ≡ l .entry .self .moves .now)
+abbrev pub Inv-loop-i : given.InvT-loop-i
+Inv-loop-i l =
+    Turned (l .i) (l .self .sets .now) (set-at (l .numbering)) (l .entry .self .sets .now)
+    × (length (l .self .sets .now) ≡ length (l .entry .self .sets .now))
     × (l .self .desk ≡ l .entry .self .desk)
+    × (l .self .moves .now ≡ l .entry .self .moves .now)
     × (name (l .self .moves) ≡ name (l .entry .self .moves))
     × (name (l .self .sets) ≡ name (l .entry .self .sets))

@@ -2,6 +2,7 @@ use native.Mathlib.Omega.{arith}
 use borrow.Author.Needs.{needs}
 use Prim.Native.Nat.{_*_, _≤_}
 use lib.ListN.{length}
+use Rattle.std.proofs.shelf.Tests.{both-ways}
 use Rattle.meaning.specs.Runs.{Room}
 use Rattle.plate.proofs.open.Plate.open.Needs as need
 
@@ -13,4 +14,4 @@ ghost-result-2 g c =
     let below : c .new-2 .result .count ≤ 256 = omega arith in
     let cells : 64 * c .new-2 .result .count ≤ length (c .clear .last .cells) = omega arith in
     let masks : 512 ≤ length (c .clear-2 .last .cells) = omega arith in
-    (few, (below, (cells, (λ _. masks, tt))))
+    (few, (below, (cells, ((λ _. masks), ((λ t. absurd (both-ways (c .new-2 .result .built) (c .new-2 .ensures .built) t)), tt)))))
