@@ -1,14 +1,14 @@
 -- The lent cells of a run, from the opening of its plate to its end.
-use mathlib.Core.Path.{_≡_, refl, subst, _∙_}
+use mathlib.Core.Path.{_≡_, refl, sym, subst, _∙_}
 use mathlib.Core.List.{List}
 use mathlib.Core.Logic.{_⊎_, inl, inr, ⊎-elim}
 use Prim.Native.Nat.{ℕ, _*_, _≤_}
 use native.Mathlib.Omega.{arith}
 use lib.ListN.{length}
-use Rattle.std.proofs.shelf.Tests.{cases-lt}
-use Rattle.meaning.specs.Runs.{Room, cleared}
+use Rattle.std.proofs.shelf.Tests.{cases-lt, cases-eq}
+use Rattle.meaning.specs.Runs.{Room, cleared, Account, Answer as Reply, Built, empty, large, made}
 use Rattle.plate.specs.Cells.{Beyond}
-use Rattle.plate.proofs.Standing.{beyond-same, cleared-written}
+use Rattle.plate.proofs.Standing.{beyond-same, beyond-cleared, cleared-written}
 
 -- cells that are as they were
 pub beyond-kept : (xs ys : List ℕ) (n : ℕ) → ys ≡ xs → Beyond n xs ys
@@ -61,3 +61,20 @@ module _ (count n : ℕ) (moves sets zero-moves zero-sets moves′ sets′ : Lis
   -- the calls kept the cells that the opening had left, and on a shut plate all of them
   pub ended : Ended count moves sets moves′ sets′
   ended = ⊎-elim with-room without-room (room-or-not count moves sets)
+
+-- a build writes no cell behind the used ones
+built-beyond : (count : ℕ) (a b : Account) (r : Reply) → 64 * count ≤ length (a .moves) → 512 ≤ length (a .sets) → Built count a r b
+    → Beyond (64 * count) (a .moves) (b .moves) × Beyond 512 (a .sets) (b .sets)
+built-beyond count a b r ms ss (empty h) = ((refl, refl), (refl, refl))
+built-beyond count a b r ms ss (large m k x) = (beyond-cleared (a .moves) (64 * count) ms, beyond-cleared (a .sets) 512 ss)
+built-beyond count a b r ms ss (made m k s f t lm ls dm ds) = ((lm, dm), (ls, ds))
+
+-- nor does one on a plate of n classes, which hears the call or leaves the cells alone
+pub build-beyond : (n count : ℕ) (a b : Account) (r : Reply) → 1 ≤ count → 64 * n ≤ length (a .moves) → (1 ≤ n → 512 ≤ length (a .sets))
+    → (n ≡ count → Built count a r b) → ((n ≡ count → ⊥) → (b .moves ≡ a .moves) × (b .sets ≡ a .sets))
+    → Beyond (64 * n) (a .moves) (b .moves) × Beyond 512 (a .sets) (b .sets)
+build-beyond n count a b r some ms ss heard away =
+    ⊎-elim
+    (λ e. let all = built-beyond count a b r (omega (arith, e, ms)) (ss (omega (arith, e, some))) (heard e) in (subst (λ k. Beyond (64 * k) (a .moves) (b .moves)) (sym e) (all .0), all .1))
+    (λ ne. let same = away ne in (beyond-kept (a .moves) (b .moves) (64 * n) (same .0), beyond-kept (a .sets) (b .sets) 512 (same .1)))
+    (cases-eq n count)

@@ -1,8 +1,10 @@
 use mathlib.Core.Path.{refl, ap, _∙_}
+use mathlib.Core.List.{[]}
 use mathlib.Core.Logic.{inl}
 use Rattle.runs.specs.Drives.{number-answer}
 use Rattle.runs.proofs.Giving.{gave-nothing, numbered-list}
-use Rattle.runs.proofs.Memory.{beyond-kept}
+use Rattle.plate.specs.Desks.{account-of}
+use Rattle.runs.proofs.Memory.{beyond-kept, build-beyond}
 use Rattle.runs.proofs.running.make.Needs as need
 
 pub returns-in-Take : need.returns-in-Take
@@ -34,12 +36,17 @@ returns-in-Strike g c =
 pub returns-in-Build : need.returns-in-Build
 returns-in-Build g c =
     let done = c .build .ensures in
+    let plate = c .args .plate .now in
+    let all =
+      build-beyond (plate .desk .count) (g .A·Alphabet .count) (account-of (plate .desk) (plate .moves .now) (plate .sets .now) []) _ _ (g .A·Alphabet·met .counted .0) (plate .cells) (plate .masks)
+      (λ e. done .heard e []) (λ n. let kept = done .unchanged (inl (done .away n)) in (kept .1, kept .2))
+    in
     record {
       gave = gave-nothing (g .D·Doer .rule) _ _ _ refl;
       list = numbered-list _ (c .build .result) _ (c .number-in-Build .ensures);
       counted = done .lines .2;
-      moves = done .beyond .0;
-      sets = done .beyond .1;
+      moves = all .0;
+      sets = all .1;
       names = done .names;
       away = λ n.
           let kept = done .unchanged (inl (done .away n)) in
