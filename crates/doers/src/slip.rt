@@ -13,6 +13,7 @@ pub const REGISTERS: usize = 8;
 pub const MOST_REGISTER: u64 = 999_999_999_999;
 // the marks of the digits 0 and 9
 const FIRST_DIGIT: u16 = 48;
+
 const LAST_DIGIT: u16 = 57;
 
 // An order slip: eight registers of at most twelve digits.

@@ -21,14 +21,14 @@ module _ (ls : List Line) (extent : List ℕ) (place : ℕ) where
   fit-below {k = k} f = nth-below ls k (f .line) (f .stands)
 
   -- the line l, numbered k, has a word of n classes
-  abbrev Ends-at : Line → ℕ → Type 0
+  abbrev pub Ends-at : Line → ℕ → Type 0
   Ends-at l n = has (move-all l (first-set l) (take n (drop place extent))) (end-mark l) ≡ true
 
-  fit-ends : {k n : ℕ} (l : Line) → Nth ls k l → Word-at ls extent place k n → Ends-at l n
+  pub fit-ends : {k n : ℕ} (l : Line) → Nth ls k l → Word-at ls extent place k n → Ends-at l n
   fit-ends {k = k} {n = n} l s f =
       subst (λ x. Ends-at x n) (one-nth ls k (f .line) l (f .stands) s) (followpos-law (f .line) (take n (drop place extent)) .0 (f .word, f .of-line, f .same))
 
-  ends-fit : {k n : ℕ} (l : Line) → Nth ls k l → 0 < n → place + n ≤ length extent → Ends-at l n → Word-at ls extent place k n
+  pub ends-fit : {k n : ℕ} (l : Line) → Nth ls k l → 0 < n → place + n ≤ length extent → Ends-at l n → Word-at ls extent place k n
   ends-fit {n = n} l s h i e =
       let (w, o, d) = followpos-law l (take n (drop place extent)) .1 e in
       record { line = l; stands = s; word = w; of-line = o; some = h; inside = i; same = d }

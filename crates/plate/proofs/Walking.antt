@@ -1,182 +1,132 @@
--- Walking through the table of a built plate: the state that is reached, its moves, and the line that is taken there. Assumes nothing.
+-- Strings of classes through the table of a built plate: where the cells lead, and the line that is taken there. Assumes nothing.
 use mathlib.Core.Path.{_≡_, refl, sym, ap, subst, _∙_}
-use mathlib.Core.Bool.{Bool, true, false}
-use mathlib.Core.List.{List, [], _∷_, _++_}
+use mathlib.Core.Bool.{true, false}
 use mathlib.Core.Logic.{inl, inr, ∥∥₁-elim}
-use Prim.Native.Nat.{ℕ, zero, suc, _+_, _*_, _<_, _≤_}
+use mathlib.Core.List.{List, [], _∷_, _++_, map}
+use Prim.Native.Nat.{ℕ, _+_, _*_, _<_}
 use native.Mathlib.Omega.{arith}
 use denote.Struct.Props.{props}
-use lib.ListN.{length, getD}
+use lib.ListN.{length, getD, take}
 use Rattle.std.specs.declared.option.Option.{Option}
 use Rattle.std.specs.declared.option.Option.the-variants.{Some, None}
-use Rattle.std.proofs.shelf.Lists.{ext-getD}
-use Rattle.std.proofs.shelf.Tests.{cases-lt}
 use Rattle.meaning.specs.Words.{Line}
 use Rattle.meaning.specs.Positions.{has, end-mark, first-set, move-all}
-use Rattle.meaning.specs.States.{State, start, step, steps, nowhere, States, Tables}
+use Rattle.meaning.specs.States.{State, nowhere, start, step, steps, Leads-to}
 use Rattle.meaning.specs.Pieces.{Nth}
 use Rattle.meaning.specs.Runs.{Mean}
-use Rattle.meaning.proofs.Cells.{numbered-somewhere}
+use Rattle.meaning.specs.ReadLaws.{All-clear}
 use Rattle.meaning.proofs.Determined.{one-mean}
-use Rattle.meaning.proofs.Nths.{nth-below, one-nth}
-use Rattle.meaning.proofs.Reach.{reached, eight-sets, line-set, steps-append}
-use Rattle.plate.specs.declared.open.Plate.{Plate}
+use Rattle.meaning.proofs.Nths.{one-nth, nth-below}
+use Rattle.meaning.proofs.Masks.{has-zero}
+use Rattle.meaning.proofs.Reach.{line-set, empty-step, steps-append}
+use Rattle.sheet.specs.declared.entry.Entry.{Entry}
+use Rattle.sheet.specs.Entries.{text-of}
+use Rattle.sheet.proofs.Entries.{record-clear as clear}
+use Rattle.plate.specs.declared.desk.Desk.{Desk}
 use Rattle.plate.specs.Desks.{texts-of}
-use Rattle.plate.specs.Cells.{reached as behind}
-use Rattle.plate.specs.Tables.{None-before, Earliest}
-use Rattle.plate.proofs.Meant.{nowhere-at, lines-length}
+use Rattle.plate.specs.Tables.{Built-table, Earliest}
+use Rattle.plate.proofs.Meant.{nowhere-at}
 
--- the state s is where the string α of classes leads, which is not nowhere
-abbrev pub At : List Line → (sets : List ℕ) → ℕ → List ℕ → Type 0
-At ls sets s α = (s < 64) × (steps ls α (start ls) ≡ nowhere → ⊥) × ((k : ℕ) → k < 8 → getD sets (s * 8 + k) 0 ≡ getD (steps ls α (start ls)) k 0)
+-- the line l has a word of the classes α
+abbrev pub Marked : Line → List ℕ → Type 0
+Marked l α = has (move-all l (first-set l) α) (end-mark l) ≡ true
 
--- the line l has α among its words
-abbrev pub Has : Line → List ℕ → Type 0
-Has l α = has (move-all l (first-set l) α) (end-mark l) ≡ true
+abbrev pub Unmarked : Line → List ℕ → Type 0
+Unmarked l α = has (move-all l (first-set l) α) (end-mark l) ≡ false
 
--- no line before the k-th has α among its words
-abbrev pub Not-before : List Line → List ℕ → ℕ → Type 0
-Not-before ls α k = (j : ℕ) (m : Line) → j < k → Nth ls j m → has (move-all m (first-set m) α) (end-mark m) ≡ false
+-- nowhere leads nowhere
+nowhere-steps : (ls : List Line) (β : List ℕ) → steps ls β nowhere ≡ nowhere
+nowhere-steps ls [] = refl
+nowhere-steps ls (c ∷ β) = ap (steps ls β) (empty-step ls c 8) ∙ nowhere-steps ls β
 
--- the line taken in a state is the earliest that has α
-abbrev pub Taken-at : List Line → List ℕ → Option ℕ → Type 0
-Taken-at ls α r =
-    ((k : ℕ) → r ≡ Some k → (k < length ls) × ((l : Line) → Nth ls k l → Has l α) × Not-before ls α k)
-    × (r ≡ None → Not-before ls α (length ls))
+-- a set in a state is what the moves of its line give
+set-of : (ls : List Line) (k : ℕ) (l : Line) → Nth ls k l → (s : State) (α : List ℕ) → s ≡ steps ls α (start ls) → getD s k 0 ≡ move-all l (first-set l) α
+set-of ls k l n s α e = ap (λ t. getD t k 0) e ∙ line-set ls k l n α
 
-module _ (count : ℕ) (ls : List Line) (all : List State) (moves sets : List ℕ) (st : States count ls all) (lim : length all ≤ 64) (tab : Tables count ls all moves sets) (few : length ls ≤ 8) (some : 0 < length ls) where
-  -- the state where α leads
-  at-state : (s : ℕ) (α : List ℕ) → s < length all → getD all s nowhere ≡ steps ls α (start ls) → At ls sets s α
-  at-state s α h e = (
-    omega arith,
-    (λ z. numbered-somewhere count ls all (st .numbers) some s h (e ∙ z)),
-    λ k o. tab .set-cells s k h o ∙ ap (λ x. getD x k 0) e,
-  )
+-- no line has a word that goes on from nowhere
+lost : (ls : List Line) (k : ℕ) (l : Line) → Nth ls k l → (α β : List ℕ) → steps ls α (start ls) ≡ nowhere → Unmarked l (α ++ β)
+lost ls k l n α β e =
+    ap (λ m. has m (end-mark l))
+    (sym (set-of ls k l n nowhere (α ++ β) (sym (steps-append ls α β (start ls) ∙ ap (steps ls β) e ∙ nowhere-steps ls β))) ∙ nowhere-at k)
+    ∙ has-zero (end-mark l)
 
-  at-found : (s : ℕ) (α : List ℕ) → At ls sets s α → (s < length all) × (getD all s nowhere ≡ steps ls α (start ls))
-  at-found s α at = elim (cases-lt s (length all)) [
-    | inl h ↦
-        let (β, k, e) = reached count ls all (st .numbers) s h in
-        let eight : length (getD all s nowhere) ≡ 8 = ap length (sym e) ∙ eight-sets ls few β in (
-          h,
-          ext-getD 0 (getD all s nowhere) (steps ls α (start ls)) (eight ∙ sym (eight-sets ls few α))
-              (λ i o. sym (tab .set-cells s i h (omega arith)) ∙ at .2 i (omega arith)),
-        )
-    | inr h ↦
-        absurd (at .1 (ext-getD 0 (steps ls α (start ls)) nowhere (eight-sets ls few α)
-        (λ i o.
-        let p : i < 8 = omega (arith, eight-sets ls few α) in
-        let q = at .0 in
-        sym (at .2 i p) ∙ tab .other-sets (s * 8 + i) (omega arith) (omega arith) ∙ sym (nowhere-at i))))
-  ]
+-- what is known of the line k that is taken after the classes α: it has a word there, and no earlier line does
+abbrev pub Taken-after : List Line → List ℕ → ℕ → Type 0
+Taken-after ls α k = (k < length ls) × ((l : Line) → Nth ls k l → Marked l α) × ((j : ℕ) (l : Line) → j < k → Nth ls j l → Unmarked l α)
 
-  table-start : At ls sets 0 []
-  table-start = at-state 0 [] (st .numbers .starts .0) (st .numbers .starts .1)
+-- no line is taken
+abbrev pub None-after : List Line → List ℕ → Type 0
+None-after ls α = (j : ℕ) (l : Line) → Nth ls j l → Unmarked l α
 
-  table-stuck : (s c : ℕ) (α : List ℕ) → At ls sets s α → c < count → getD moves (s * count + c) 0 ≡ 0 → steps ls (α ++ c ∷ []) (start ls) ≡ nowhere
-  table-stuck s c α at k z =
-      let (h, e) = at-found s α at in
-      elim (tab .move-cells s c h k) [
-        | inl (p, f) ↦ steps-append ls α (c ∷ []) (start ls) ∙ ap (step ls c) (sym e) ∙ f
-        | inr (t, p, o, f) ↦ absurd (omega arith)
-      ]
+entries-clear : (es : List Entry) (ls : List Line) → Mean (map text-of es) ls → All-clear ls
+entries-clear [] [] m = tt
+entries-clear [] (l ∷ ls) m = absurd m
+entries-clear (e ∷ es) [] m = absurd m
+entries-clear (e ∷ es) (l ∷ ls) m = (clear e l (m .0), entries-clear es ls (m .1))
 
-  table-step : (s c t : ℕ) (α : List ℕ) → At ls sets s α → c < count → getD moves (s * count + c) 0 ≡ t + 1 → At ls sets t (α ++ c ∷ [])
-  table-step s c t α at k z =
-      let (h, e) = at-found s α at in
-      elim (tab .move-cells s c h k) [
-        | inl (p, f) ↦ absurd (omega arith)
-        | inr (u, p, o, f) ↦
-            let same : u ≡ t = omega arith in
-            at-state t (α ++ c ∷ []) (omega arith)
-            (ap (λ i. getD all i nowhere) (sym same) ∙ sym f ∙ ap (step ls c) e ∙ sym (steps-append ls α (c ∷ []) (start ls)))
-      ]
+-- no line that stands clashes
+pub lines-clear : (d : Desk) (ls : List Line) → Mean (texts-of d) ls → All-clear ls
+lines-clear d ls m = entries-clear (take (d .standing) (d .entries)) ls m
 
--- lines by their sets
-none-before : (ls : List Line) (α : List ℕ) (k : ℕ) → None-before ls (steps ls α (start ls)) k → Not-before ls α k
-none-before ls α k f j m h i = ap (λ x. has x (end-mark m)) (sym (line-set ls j m i α)) ∙ f j m h i
+module _ (count : ℕ) (texts : List (List ℕ)) (moves sets : List ℕ) (accepts : List (Option ℕ)) (ls : List Line) where
+  -- state s of the table is where the classes α lead from the start
+  abbrev pub At : ℕ → List ℕ → Type 0
+  At s α = (b : Built-table count texts moves sets accepts) → (s < length (b .all)) × (getD (b .all) s nowhere ≡ steps ls α (start ls))
 
-earliest-taken : (ls : List Line) (α : List ℕ) (r : Option ℕ) → Earliest ls (steps ls α (start ls)) r → Taken-at ls α r
-earliest-taken ls α None e = ((λ k z. absurd (let y : _≡_ {A = ℕ} 0 1 = cc in omega arith)), λ _. none-before ls α (length ls) e)
-earliest-taken ls α (Some k) ((l, i, h), f) = (
-  (λ j z.
-      let same : k ≡ j = cc in
-      subst (λ n. (n < length ls) × ((m : Line) → Nth ls n m → Has m α) × Not-before ls α n) same (
-        nth-below ls k l i,
-        (λ m o. subst (λ x. Has x α) (one-nth ls k l m i o) (ap (λ x. has x (end-mark l)) (sym (line-set ls k l i α)) ∙ h)),
-        none-before ls α k f,
-      )),
-  λ z. absurd (let y : _≡_ {A = ℕ} 0 1 = cc in omega arith),
-)
+  module _ (m : Mean texts ls) where
+    same-lines : (b : Built-table count texts moves sets accepts) → b .lines ≡ ls
+    same-lines b = one-mean texts (b .lines) ls (b .mean) m
 
--- what is said of the line taken is known in one way
-flag-prop : {x y : Bool} → IsProp (x ≡ y)
-flag-prop = search props
+    pub start-at : At 0 []
+    start-at b = (b .states .numbers .starts .0, b .states .numbers .starts .1 ∙ ap start (same-lines b))
 
-less-prop : {x y : ℕ} → IsProp (x < y)
-less-prop = search props
+    leads-at : (b : Built-table count texts moves sets accepts) (s c : ℕ) → s < length (b .all) → c < count → Leads-to ls (b .all) s c (getD moves (s * count + c) 0)
+    leads-at b s c h k = subst (λ xs. Leads-to xs (b .all) s c (getD moves (s * count + c) 0)) (same-lines b) (b .tables .move-cells s c h k)
 
-not-before-prop : (ls : List Line) (α : List ℕ) (k : ℕ) → IsProp (Not-before ls α k)
-not-before-prop ls α k p q = λ i j m h n. flag-prop (p j m h n) (q j m h n) i
+    one-step : (b : Built-table count texts moves sets accepts) (s c : ℕ) (α : List ℕ) → At s α → step ls c (getD (b .all) s nowhere) ≡ steps ls (α ++ c ∷ []) (start ls)
+    one-step b s c α a = ap (step ls c) (a b .1) ∙ sym (steps-append ls α (c ∷ []) (start ls))
 
-taken-prop : (ls : List Line) (α : List ℕ) (r : Option ℕ) → IsProp (Taken-at ls α r)
-taken-prop ls α r p q = λ i. (
-  (λ k e.
-      (less-prop (p .0 k e .0) (q .0 k e .0) i, (λ l n. flag-prop (p .0 k e .1 l n) (q .0 k e .1 l n) i), not-before-prop ls α k (p .0 k e .2) (q .0 k e .2) i)),
-  λ e. not-before-prop ls α (length ls) (p .1 e) (q .1 e) i,
-)
+    -- the state that a cell names
+    pub step-at : (s c t : ℕ) (α : List ℕ) → At s α → c < count → getD moves (s * count + c) 0 ≡ t + 1 → At t (α ++ c ∷ [])
+    step-at s c t α a h e b = elim (leads-at b s c (a b .0) h) [
+      | inl (z, n) ↦ absurd (omega arith)
+      | inr (u, z, k, n) ↦
+          let same : u ≡ t = omega arith in
+          subst (λ v. (v < length (b .all)) × (getD (b .all) v nowhere ≡ steps ls (α ++ c ∷ []) (start ls))) same (k, sym n ∙ one-step b s c α a)
+    ]
 
--- the move that a cell tells
-behind-none : (x : ℕ) → behind x ≡ None → x ≡ 0
-behind-none zero e = refl
-behind-none (suc x) e = absurd (let y : _≡_ {A = ℕ} 0 1 = cc in omega arith)
+    module _ (built : ∥ Built-table count texts moves sets accepts ∥₁) where
+      -- a state has a number that a plate has
+      pub below-at : (s : ℕ) (α : List ℕ) → At s α → s < 64
+      below-at s α a = ∥∥₁-elim built (search props) (λ b. let h = a b .0 in let k = b .few in omega arith)
 
-behind-some : (x t : ℕ) → behind x ≡ Some t → x ≡ t + 1
-behind-some zero t e = absurd (let y : _≡_ {A = ℕ} 0 1 = cc in omega arith)
-behind-some (suc x) t e = let same : x ≡ t = cc in omega arith
+      -- behind a cell that is 0 no line has a word
+      pub lost-at : (s c : ℕ) (α β : List ℕ) → At s α → c < count → getD moves (s * count + c) 0 ≡ 0 → (k : ℕ) (l : Line) → Nth ls k l → Unmarked l ((α ++ c ∷ []) ++ β)
+      lost-at s c α β a h e k l n =
+          ∥∥₁-elim built (search props)
+          (λ b. elim (leads-at b s c (a b .0) h) [
+            | inl (z, o) ↦ lost ls k l n (α ++ c ∷ []) β (sym (one-step b s c α a) ∙ o)
+            | inr (u, z, o, p) ↦ absurd (omega arith)
+          ])
 
--- the table of the lines ls
-record Table (count : ℕ) (moves sets : List ℕ) (accepts : List (Option ℕ)) (ls : List Line) : Type 0 where
-  some : 0 < length ls
-  all : List State
-  states : States count ls all
-  limit : length all ≤ 64
-  tables : Tables count ls all moves sets
-  earliest : (s : ℕ) → s < length all → Earliest ls (getD all s nowhere) (getD accepts s None)
+      earliest-at : (b : Built-table count texts moves sets accepts) (s : ℕ) → s < length (b .all) → Earliest ls (getD (b .all) s nowhere) (getD accepts s None)
+      earliest-at b s h = subst (λ xs. Earliest xs (getD (b .all) s nowhere) (getD accepts s None)) (same-lines b) (b .earliest s h)
 
-module _ (p : Plate) (b : p .desk .built ≡ true) (ls : List Line) (m : Mean (texts-of (p .desk)) ls) where
-  few-lines : length ls ≤ 8
-  few-lines =
-      let fits : p .desk .standing ≤ length (p .desk .entries) = omega (arith, p .few, p .desk .full) in
-      omega (arith, lines-length (p .desk .entries) (p .desk .standing) fits ls m, p .few)
+      pub none-at : (s : ℕ) (α : List ℕ) → At s α → getD accepts s None ≡ None → None-after ls α
+      none-at s α a e j l n =
+          ∥∥₁-elim built (search props)
+          (λ b.
+          let f : Earliest ls (getD (b .all) s nowhere) None = subst (Earliest ls (getD (b .all) s nowhere)) e (earliest-at b s (a b .0)) in
+          ap (λ m. has m (end-mark l)) (sym (set-of ls j l n (getD (b .all) s nowhere) α (a b .1))) ∙ f j l (nth-below ls j l n) n)
 
-  -- what is known in one way from the table of the plate
-  by-table : (P : Type 0) → IsProp P → (Table (p .desk .count) (p .moves .now) (p .sets .now) (p .desk .accepts) ls → P) → P
-  by-table P q f = ∥∥₁-elim (p .built b) q (λ t.
-      f (subst (Table (p .desk .count) (p .moves .now) (p .sets .now) (p .desk .accepts)) (one-mean (texts-of (p .desk)) (t .lines) ls (t .mean) m)
-      (record { some = t .some; all = t .all; states = t .states; limit = t .few; tables = t .tables; earliest = t .earliest })))
-
-  -- the walk begins in state 0
-  pub start-at : At ls (p .sets .now) 0 []
-  start-at = by-table (At ls (p .sets .now) 0 []) (search props)
-      (λ t. table-start (p .desk .count) ls (t .all) (p .moves .now) (p .sets .now) (t .states) (t .limit) (t .tables) few-lines (t .some))
-
-  module _ (s c : ℕ) (α : List ℕ) (at : At ls (p .sets .now) s α) (below : c < p .desk .count) where
-    -- where there is no move on the class c, it leads nowhere
-    pub stuck-at : behind (getD (p .moves .now) (s * p .desk .count + c) 0) ≡ None → steps ls (α ++ c ∷ []) (start ls) ≡ nowhere
-    stuck-at z = by-table (steps ls (α ++ c ∷ []) (start ls) ≡ nowhere) (search props)
-        (λ t. table-stuck (p .desk .count) ls (t .all) (p .moves .now) (p .sets .now) (t .states) (t .limit) (t .tables) few-lines (t .some) s c α at below
-        (behind-none (getD (p .moves .now) (s * p .desk .count + c) 0) z))
-
-    -- else it leads to the state of the move
-    pub step-at : (t : ℕ) → behind (getD (p .moves .now) (s * p .desk .count + c) 0) ≡ Some t → At ls (p .sets .now) t (α ++ c ∷ [])
-    step-at n z = by-table (At ls (p .sets .now) n (α ++ c ∷ [])) (search props)
-        (λ t. table-step (p .desk .count) ls (t .all) (p .moves .now) (p .sets .now) (t .states) (t .limit) (t .tables) few-lines (t .some) s c n α at below
-        (behind-some (getD (p .moves .now) (s * p .desk .count + c) 0) n z))
-
-  -- the line that is taken
-  pub accept-at : (s : ℕ) (α : List ℕ) → At ls (p .sets .now) s α → Taken-at ls α (getD (p .desk .accepts) s None)
-  accept-at s α at = by-table (Taken-at ls α (getD (p .desk .accepts) s None)) (taken-prop ls α (getD (p .desk .accepts) s None))
-      (λ t.
-      let (h, e) = at-found (p .desk .count) ls (t .all) (p .moves .now) (p .sets .now) (t .states) (t .limit) (t .tables) few-lines (t .some) s α at in
-      earliest-taken ls α (getD (p .desk .accepts) s None) (subst (λ x. Earliest ls x (getD (p .desk .accepts) s None)) e (t .earliest s h)))
+      pub taken-at : (s k : ℕ) (α : List ℕ) → At s α → getD accepts s None ≡ Some k → Taken-after ls α k
+      taken-at s k α a e =
+          let at : (b : Built-table count texts moves sets accepts) → Earliest ls (getD (b .all) s nowhere) (Some k) = λ b. subst (Earliest ls (getD (b .all) s nowhere)) e (earliest-at b s (a b .0)) in (
+            ∥∥₁-elim built (search props) (λ b. let (l, n, h) = at b .0 in nth-below ls k l n),
+            (λ l n. ∥∥₁-elim built (search props) (λ b.
+                let (x, o, h) = at b .0 in
+                ap (λ m. has m (end-mark l)) (sym (set-of ls k l n (getD (b .all) s nowhere) α (a b .1)))
+                ∙ ap (λ y. has (getD (getD (b .all) s nowhere) k 0) (end-mark y)) (one-nth ls k l x n o) ∙ h)),
+            λ j l h n. ∥∥₁-elim built (search props) (λ b.
+                ap (λ m. has m (end-mark l)) (sym (set-of ls j l n (getD (b .all) s nowhere) α (a b .1))) ∙ at b .1 j l h n),
+          )

@@ -1,11 +1,18 @@
 -- What read and test answer. Assumes nothing.
 use mathlib.Core.Path.{_≡_}
-use mathlib.Core.Bool.{true}
+use mathlib.Core.Bool.{true, Bool}
+use mathlib.Core.List.{List}
 use Prim.Native.Nat.{ℕ, _+_, _<_, _≤_}
+use Rattle.std.specs.declared.result.Result.{Result}
+use Rattle.std.specs.declared.result.Result.the-variants.{Ok, Err}
+use Rattle.meaning.specs.declared.Piece.{Piece}
+use Rattle.meaning.specs.Runs.{Answer, listed, unread}
+use Rattle.meaning.specs.Tests.{Verdict, word, declined}
 use Rattle.reading.specs.declared.cutting.Why.{Why}
 use Rattle.reading.specs.declared.cutting.Why.the-variants.{End, NoPiece, ListFull, TurnedAway}
 use Rattle.sheet.specs.declared.refusal.Refusal.{Refusal}
 use Rattle.sheet.specs.declared.refusal.Refusal.the-variants.{NoSuchLine, TooFewCodeCells}
+use Rattle.sheet.specs.Refusals.{reported}
 use Rattle.plate.specs.declared.desk.Desk.{Desk}
 use Rattle.plate.specs.Cells.{Unready}
 
@@ -15,6 +22,16 @@ why-number End = 0
 why-number NoPiece = 1
 why-number ListFull = 2
 why-number TurnedAway = 3
+
+-- what a read answers: the list as it leaves it, with what it tells, or with the refusal
+abbrev pub read-answer : List Piece → Result (ℕ × ℕ × Why) Refusal → Answer
+read-answer list (Ok a) = listed list (a .0) (a .1) (why-number (a .2))
+read-answer list (Err f) = unread list (reported f)
+
+-- what a test answers
+abbrev pub test-answer : Result Bool Refusal → Verdict
+test-answer (Ok b) = word b
+test-answer (Err f) = declined (reported f)
 
 -- a plate that is ready for an extent of `len` symbols
 pub record Ready (count : ℕ) (desk : Desk) (len : ℕ) : Type 0 where

@@ -38,8 +38,8 @@ returns-in-Build g c =
     let done = c .build .ensures in
     let plate = c .args .plate .now in
     let all =
-      build-beyond (plate .desk .count) (g .A·Alphabet .count) (account-of (plate .desk) (plate .moves .now) (plate .sets .now) []) _ _ (g .A·Alphabet·met .counted .0) (plate .cells) (plate .masks)
-      (λ e. done .heard e []) (λ n. let kept = done .unchanged (inl (done .away n)) in (kept .1, kept .2))
+    build-beyond (plate .desk .count) (g .A·Alphabet .count) (account-of (plate .desk) (plate .moves .now) (plate .sets .now) []) _ _ (g .A·Alphabet·met .counted .0) (plate .cells) (plate .masks)
+    (λ e. done .heard e []) (λ n. let kept = done .unchanged (inl (done .away n)) in (kept .1, kept .2))
     in
     record {
       gave = gave-nothing (g .D·Doer .rule) _ _ _ refl;
