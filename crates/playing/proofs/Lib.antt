@@ -1,1 +1,4 @@
 pub mod Led
+pub mod Coded
+pub mod Going
+pub mod Pieced

@@ -1,11 +1,18 @@
-ghost use Prim.Native.Nat.{ℕ, _+_, _<_, _≤_};
+ghost use Prim.Native.Nat.{_≤_};
 ghost use mathlib.Core.Path.{_≡_};
 ghost use mathlib.Core.List.{List};
 ghost use lib.ListN.{length};
 ghost use Rattle.std.specs.Results.{Cases};
-ghost use Rattle.meaning.specs.Doers.{Given, Leads};
+ghost use Rattle.std.specs.declared.result.Result.the-variants.{Err};
+ghost use Rattle.meaning.specs.Words.{Line, Word, Of, classes};
+ghost use Rattle.meaning.specs.Alphabets.{seen};
+ghost use Rattle.meaning.specs.Doers.{Given, Leads, gives};
+ghost use Rattle.meaning.specs.Runs.{Means};
+ghost use Rattle.sheet.specs.Entries.{text-of};
 ghost use Rattle.plate.specs.Cells.{Unready};
+ghost use Rattle.plate.specs.Desks.{account-of};
 ghost use Rattle.reading.specs.Answers.{Ready};
+ghost use Rattle.playing.specs.Performances.{Offered, Performed, play-answer};
 use doers::Doer;
 use plate::Plate;
 use positions::NO_MARK;
@@ -15,24 +22,23 @@ use sheet::Alphabet;
 use sheet::Entry;
 use sheet::Refusal;
 
-// Gives the codes of a word to the doer, in order, until one is turned away; answers how many it took.
-fn give_word<A: Alphabet, D: Doer>(entry: &Entry, word: &[A], doer: &mut D) -> usize
+// Gives the codes of a word of the line to the doer, in order, until one is turned away; answers how many it took.
+fn give_word<A: Alphabet, D: Doer>(line: &Entry, word: &[A], doer: &mut D) -> usize
     requires { ⌜ length (now word) ≤ 32768 ⌝ }
-    ensures given { λ r. ⌜ ((gs : List Given) × Leads (D·Doer .rule) (D·Doer .state (now (doer .entry))) gs (D·Doer .state (now (doer .exit))) × (length gs ≡ r)) ⌝ }
-    ensures bound { λ r. ⌜ r ≤ length (now (word .entry)) + 2 ⌝ }
+    ensures { λ r. ⌜ ((l : Line) (w : Word) → Means (text-of (now (line .entry))) l → Of (l .expr) w → classes w ≡ seen (A·Alphabet .classed) (now (word .entry)) → Offered (D·Doer .rule) (D·Doer .state (now (doer .entry))) (gives l w) r (D·Doer .state (now (doer .exit)))) ⌝ }
 {
-    if !doer.give(entry.open(), NO_MARK) {
+    if !doer.give(line.open(), NO_MARK) {
         return 0;
     }
-    let mut set = entry.first();
+    let mut set = line.first();
     for i in 0..word.len() {
         let class = word[i].class();
-        if !doer.give(entry.code(set, class), class as u16) {
+        if !doer.give(line.code(set, class), class as u16) {
             return i + 1;
         }
-        set = entry.next(set, class);
+        set = line.next(set, class);
     }
-    if doer.give(entry.close(), NO_MARK) {
+    if doer.give(line.close(), NO_MARK) {
         word.len() + 2
     } else {
         word.len() + 1
@@ -46,6 +52,8 @@ pub fn play<A: Alphabet, D: Doer>(
     extent: &[A],
     doer: &mut D,
 ) -> Result<(usize, usize, usize, Why), Refusal>
+    ensures away { λ r. ⌜ ((now (plate .entry) .desk .count ≡ A·Alphabet .count → ⊥) → (r ≡ Err Refusal.NotOpen) × (now (doer .exit) ≡ now (doer .entry))) ⌝ }
+    ensures heard { λ r. ⌜ (now (plate .entry) .desk .count ≡ A·Alphabet .count → (h : List Given) → Performed (D·Doer .rule) (account-of (now (plate .entry) .desk) (now (now (plate .entry) .moves)) (now (now (plate .entry) .sets)) h) (seen (A·Alphabet .classed) (now (extent .entry))) (D·Doer .state (now (doer .entry))) (play-answer r) (D·Doer .state (now (doer .exit)))) ⌝ }
     ensures cases { λ r. ⌜ Cases r (λ _. Ready (A·Alphabet .count) (now (plate .entry) .desk) (length (now (extent .entry)))) (λ f. Unready (A·Alphabet .count) (now (plate .entry) .desk) (length (now (extent .entry))) f) ⌝ }
     ensures doer { λ r. ⌜ Cases r (λ a. (gs : List Given) × Leads (D·Doer .rule) (D·Doer .state (now (doer .entry))) gs (D·Doer .state (now (doer .exit)))) (λ _. now (doer .exit) ≡ now (doer .entry)) ⌝ }
     ensures bounds { λ r. ⌜ Cases r (λ a. (a .0 ≤ a .1) × (a .1 ≤ length (now (extent .entry)))) (λ _. Unit {0}) ⌝ }
