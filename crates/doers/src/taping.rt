@@ -20,7 +20,7 @@ impl<'c> Tape<'c> {
     pub fn held(&self) -> usize
         ensures { λ r. ⌜ r ≡ length (taped (now (self .entry)) .held) ⌝ }
     {
-        self.held
+        self.held // of those that it was lent
     }
 }
 

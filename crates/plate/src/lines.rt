@@ -59,7 +59,7 @@ impl Desk {
         let entry = Entry::read::<A>(line)?;
         self.entries[place] = entry;
         self.standing = place + 1;
-        self.built = false;
+        self.built = false; // the table does not have the line
         Ok(place)
     }
 

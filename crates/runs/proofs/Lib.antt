@@ -1,2 +1,4 @@
-pub mod Giving
-pub mod Memory
+pub mod Opening
+pub mod Dealing
+pub mod Underway
+pub mod Making

@@ -1,12 +1,15 @@
-ghost use Prim.Native.Nat.{ℕ, _*_, _≤_, min};
+ghost use Prim.Native.Nat.{_≤_, min};
 ghost use mathlib.Core.Path.{_≡_};
-ghost use mathlib.Core.List.{List};
+ghost use mathlib.Core.List.{List, map};
 ghost use denote.Ref.{name};
-ghost use lib.ListN.{length, take, drop};
-ghost use Rattle.meaning.specs.Runs.{Room};
-ghost use Rattle.plate.specs.Cells.{Beyond};
-ghost use Rattle.meaning.specs.declared.Piece.{Piece as Listed};
-ghost use Rattle.runs.specs.Drives.{number-answer, Quiet, Gave, Drives, Kept-list, cells-of};
+ghost use lib.ListN.{length, drop};
+ghost use Rattle.meaning.specs.Alphabets.{seen};
+ghost use Rattle.meaning.specs.Doers.{Given, Leads};
+ghost use Rattle.meaning.specs.Runs.{Listed};
+ghost use Rattle.meaning.specs.Asked.{ask-play, Ran};
+ghost use Rattle.meaning.specs.declared.Piece.{Piece as Cell};
+ghost use Rattle.plate.specs.Desks.{account-of};
+ghost use Rattle.runs.specs.Asking.{number-answer, cells-of, asked-of, reply-of, with-list, Made};
 use crate::calling::Answer;
 use crate::calling::Call;
 use doers::Doer;
@@ -27,9 +30,8 @@ fn number(answer: Result<usize, Refusal>) -> Answer
 }
 
 fn read_into<A: Alphabet>(plate: &Plate, extent: &[A], list: &mut [Piece]) -> Answer
-    ensures quiet { λ r. ⌜ Quiet r ⌝ }
-    ensures list { λ r. ⌜ Kept-list r (now (list .entry)) (now (list .exit)) ⌝ }
-    ensures away { λ r. ⌜ ((now (plate .entry) .desk .count ≡ A·Alphabet .count → ⊥) → r ≡ Answer.Refused Refusal.NotOpen) ⌝ }
+    ensures away { λ r. ⌜ ((now (plate .entry) .desk .count ≡ A·Alphabet .count → ⊥) → (r ≡ Answer.Refused Refusal.NotOpen) × (now (list .exit) ≡ now (list .entry))) ⌝ }
+    ensures heard { λ r. ⌜ (now (plate .entry) .desk .count ≡ A·Alphabet .count → (h : List Given) → Listed (account-of (now (plate .entry) .desk) (now (now (plate .entry) .moves)) (now (now (plate .entry) .sets)) h) (seen (A·Alphabet .classed) (now (extent .entry))) (now (list .entry)) (with-list (now (list .exit)) r)) ⌝ }
 {
     match read(plate, extent, list) {
         Ok((pieces, place, why)) => Answer::Read(pieces, place, why),
@@ -38,9 +40,7 @@ fn read_into<A: Alphabet>(plate: &Plate, extent: &[A], list: &mut [Piece]) -> An
 }
 
 fn play_to<A: Alphabet, D: Doer>(plate: &Plate, extent: &[A], doer: &mut D) -> Answer
-    ensures gave { λ r. ⌜ Gave (D·Doer .rule) (D·Doer .state (now (doer .entry))) r (D·Doer .state (now (doer .exit))) ⌝ }
-    ensures list { λ r. ⌜ ((list : List Listed) → Kept-list r list list) ⌝ }
-    ensures away { λ r. ⌜ ((now (plate .entry) .desk .count ≡ A·Alphabet .count → ⊥) → r ≡ Answer.Refused Refusal.NotOpen) ⌝ }
+    ensures { λ r. ⌜ ((first : D·Doer .State) (h : List Given) (list : List Cell) → Leads (D·Doer .rule) first h (D·Doer .state (now (doer .entry))) → Made (A·Alphabet .count) (D·Doer .rule) first (now (plate .entry) .desk .count) (account-of (now (plate .entry) .desk) (now (now (plate .entry) .moves)) (now (now (plate .entry) .sets)) h) (ask-play (seen (A·Alphabet .classed) (now (extent .entry)))) list (reply-of r) (account-of (now (plate .entry) .desk) (now (now (plate .entry) .moves)) (now (now (plate .entry) .sets))) list (D·Doer .state (now (doer .exit)))) ⌝ }
 {
     match play(plate, extent, doer) {
         Ok((pieces, place, codes, why)) => Answer::Played(pieces, place, codes, why),
@@ -55,13 +55,9 @@ fn make<A: Alphabet, D: Doer>(
     call: &Call<'_, A>,
     list: &mut [Piece],
 ) -> Answer
-    ensures gave { λ r. ⌜ Gave (D·Doer .rule) (D·Doer .state (now (doer .entry))) r (D·Doer .state (now (doer .exit))) ⌝ }
-    ensures list { λ r. ⌜ Kept-list r (now (list .entry)) (now (list .exit)) ⌝ }
+    ensures made { λ r. ⌜ ((first : D·Doer .State) (h : List Given) → Leads (D·Doer .rule) first h (D·Doer .state (now (doer .entry))) → Made (A·Alphabet .count) (D·Doer .rule) first (now (plate .entry) .desk .count) (account-of (now (plate .entry) .desk) (now (now (plate .entry) .moves)) (now (now (plate .entry) .sets)) h) (asked-of (A·Alphabet .classed) (now (call .entry))) (now (list .entry)) (reply-of r) (account-of (now (plate .exit) .desk) (now (now (plate .exit) .moves)) (now (now (plate .exit) .sets))) (now (list .exit)) (D·Doer .state (now (doer .exit)))) ⌝ }
     ensures counted { λ _. ⌜ now (plate .exit) .desk .count ≡ now (plate .entry) .desk .count ⌝ }
-    ensures moves { λ _. ⌜ Beyond (64 * now (plate .entry) .desk .count) (now (now (plate .entry) .moves)) (now (now (plate .exit) .moves)) ⌝ }
-    ensures sets { λ _. ⌜ Beyond 512 (now (now (plate .entry) .sets)) (now (now (plate .exit) .sets)) ⌝ }
     ensures names { λ _. ⌜ (name (now (plate .exit) .moves) ≡ name (now (plate .entry) .moves)) × (name (now (plate .exit) .sets) ≡ name (now (plate .entry) .sets)) ⌝ }
-    ensures away { λ r. ⌜ ((now (plate .entry) .desk .count ≡ A·Alphabet .count → ⊥) → (r ≡ Answer.Refused Refusal.NotOpen) × (now (now (plate .exit) .moves) ≡ now (now (plate .entry) .moves)) × (now (now (plate .exit) .sets) ≡ now (now (plate .entry) .sets))) ⌝ }
 {
     match *call {
         Call::Take(line) => number(plate.take::<A>(line)),
@@ -93,12 +89,9 @@ pub fn run<A: Alphabet, D: Doer>(
     lists: &mut [Piece],
     answers: &mut [Answer],
 ) -> usize
+    ensures law { λ _. ⌜ Ran (A·Alphabet .count) (D·Doer .rule) (D·Doer .state (now (doer .entry))) (now (moves .entry)) (now (sets .entry)) (map (asked-of (A·Alphabet .classed)) (now (calls .entry))) (now (lists .entry)) (map reply-of (now (answers .entry))) (now (moves .exit)) (now (sets .exit)) (D·Doer .state (now (doer .exit))) (now (lists .exit)) (map reply-of (now (answers .exit))) ⌝ }
     ensures made { λ r. ⌜ r ≡ min (length (now (calls .entry))) (length (now (answers .entry))) ⌝ }
-    ensures doer { λ r. ⌜ Drives (D·Doer .rule) (D·Doer .state (now (doer .entry))) (take r (now (answers .exit))) (D·Doer .state (now (doer .exit))) ⌝ }
     ensures answers { λ r. ⌜ drop r (now (answers .exit)) ≡ drop r (now (answers .entry)) ⌝ }
-    ensures moves { λ _. ⌜ Beyond (64 * A·Alphabet .count) (now (moves .entry)) (now (moves .exit)) ⌝ }
-    ensures sets { λ _. ⌜ Beyond 512 (now (sets .entry)) (now (sets .exit)) ⌝ }
-    ensures shut { λ _. ⌜ ((Room (A·Alphabet .count) (now (moves .entry)) (now (sets .entry)) → ⊥) → (now (moves .exit) ≡ now (moves .entry)) × (now (sets .exit) ≡ now (sets .entry))) ⌝ }
 {
     let mut plate = Plate::open::<A>(moves, sets);
     let made = calls.len().min(answers.len());
