@@ -5,6 +5,7 @@
                     `taken`, or `refused NUMBER LAYER ONE TWO`
   model.py script   reads a script of calls and prints what the program `script` prints
   model.py sheet    reads a sheet and an extent and prints what the program `sheetread` prints
+  model.py tables   reads sheets and prints what the program `tables` prints
   model.py damage   reads lines and prints each, and behind it all its damages of one byte
 
 It shares nothing with the engine. What is slow but plain is preferred to what is fast. Where a thing
@@ -15,7 +16,7 @@ import sys
 from functools import lru_cache
 from itertools import product
 
-BYTES = 256
+BYTES, PIECES = 256, 9
 MOST_BYTES, MOST_LEVELS, MOST_SYMBOLS, MOST_CODE = 1024, 16, 63, 65535
 MOST_LINES, MOST_STATES, LONGEST_EXTENT = 8, 64, 32768
 NO_MARK = 65535
@@ -377,7 +378,7 @@ class Plate:
             if len(states) > MOST_STATES:
                 self.built = False
                 raise Refused(23)
-        self.built = True
+        self.built, self.states = True, states
         return len(states)
 
     # ---- pieces (docs/READING.md) ----
@@ -565,6 +566,39 @@ def sheet(data):
     print('end', reached, why)
 
 
+def print_table(count, lines):
+    plate = Plate(count)
+    try:
+        for line in lines:
+            plate.take(line)
+        print('states', plate.build())
+    except Refused as refusal:
+        print('refused', refusal.args[0])
+        return
+    for s, state in enumerate(plate.states):
+        for k, positions in enumerate(state):
+            if positions:
+                print('set', s, k, *sorted(positions))
+    for s, state in enumerate(plate.states):
+        for c in range(count):
+            reached = tuple(line.move(positions, c) for line, positions in zip(plate.lines, state))
+            if any(reached):
+                print('move', s, c, plate.states.index(reached))
+
+
+def tables(data):
+    """The program tables: the table of each sheet, which begins with its alphabet and ends with an empty line."""
+    count, lines = BYTES, []
+    for line in lines_of(data):
+        if not line:
+            print_table(count, lines)
+            lines = []
+        elif line in (b'bytes', b'pieces'):
+            count = BYTES if line == b'bytes' else PIECES
+        else:
+            lines.append(line)
+
+
 def damages(line):
     """A line with every byte replaced by one of six, left out, or doubled."""
     for k in range(len(line)):
@@ -587,6 +621,8 @@ def main():
         script(data)
     elif command == ['sheet']:
         sheet(data)
+    elif command == ['tables']:
+        tables(data)
     elif command == ['damage']:
         damage(data)
     else:
