@@ -9,7 +9,11 @@ use sheet::Refusal;
 use std::io;
 
 // Takes the lines and builds; the number of states.
-fn built<A: Alphabet>(moves: &mut [u16], sets: &mut [u64], lines: &[&str]) -> Result<usize, Refusal> {
+fn built<A: Alphabet>(
+    moves: &mut [u16],
+    sets: &mut [u64],
+    lines: &[&str],
+) -> Result<usize, Refusal> {
     let mut plate = Plate::open::<A>(moves, sets);
     for line in lines {
         plate.take::<A>(line.as_bytes())?;
