@@ -7,7 +7,7 @@ use std::alloc::Global;
 use std::test::*;
 
 // The number and the details of a refusal, or 0 and the line's number.
-pub fn told(answer: Result<usize, Refusal>) -> (u8, usize, usize) {
+pub(crate) fn told(answer: Result<usize, Refusal>) -> (u8, usize, usize) {
     match answer {
         Ok(n) => (0, n, 0),
         Err(refusal) => {

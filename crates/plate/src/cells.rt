@@ -5,7 +5,7 @@ ghost use mathlib.Core.List.{_++_};
 ghost use lib.ListN.{length, drop, replicate};
 
 // Makes the first `used` cells `zero`.
-pub fn clear<T: Copy>(cells: &mut [T], used: usize, zero: T)
+pub(crate) fn clear<T: Copy>(cells: &mut [T], used: usize, zero: T)
     requires { ⌜ used ≤ length (now cells) ⌝ }
     ensures { λ _. ⌜ now (cells .exit) ≡ replicate used zero ++ drop used (now (cells .entry)) ⌝ }
 {

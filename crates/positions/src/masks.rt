@@ -5,7 +5,7 @@ use crate::limits::*;
 use meaning::Symbol;
 
 // The union of what follows the positions of `set`.
-pub fn union(follow: &[u64; MOST_POSITIONS], set: u64) -> u64
+pub(crate) fn union(follow: &[u64; MOST_POSITIONS], set: u64) -> u64
     ensures { λ r. ⌜ Union (now (follow .entry)) set r ⌝ }
 {
     let mut all = 0;
@@ -19,7 +19,7 @@ pub fn union(follow: &[u64; MOST_POSITIONS], set: u64) -> u64
 }
 
 // For each class, the positions whose range holds it.
-pub fn class_masks(symbols: &[Symbol; MOST_SYMBOLS], count: usize) -> [u64; MOST_CLASSES]
+pub(crate) fn class_masks(symbols: &[Symbol; MOST_SYMBOLS], count: usize) -> [u64; MOST_CLASSES]
     requires { ⌜ count ≤ 63 ⌝ }
     ensures { λ r. ⌜ Class-masks count (now (symbols .entry)) r ⌝ }
 {

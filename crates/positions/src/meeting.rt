@@ -107,7 +107,7 @@ fn all_meetings(
 }
 
 // The meeting positions p < q of different codes, with the lowest p and then the lowest q.
-pub fn first_clash(
+pub(crate) fn first_clash(
     symbols: &[Symbol; MOST_SYMBOLS],
     count: usize,
     first: u64,

@@ -17,7 +17,7 @@ use positions::MOST_CODE;
 use positions::MOST_LEVELS;
 
 // Reads a whole text.
-pub fn parse(text: &[u8], classes: usize) -> Result<Parsed, Refusal>
+pub(crate) fn parse(text: &[u8], classes: usize) -> Result<Parsed, Refusal>
     requires { ⌜ classes ≤ 256 ⌝ }
     ensures { λ r. ⌜ Parses classes (now (text .entry)) r ⌝ }
 {
@@ -171,14 +171,16 @@ impl Reader<'_> {
         ensures on { λ _. ⌜ now (self .entry) .at ≤ now (self .exit) .at ⌝ }
         ensures reads { λ r. ⌜ Reads-form (now (self .entry)) (now (self .exit)) levels r ⌝ }
     {
-        if self.next() != '(' {
-            return Err(self.bad_form());
+        match self.next() {
+            '(' => {
+                if levels == 0 {
+                    return Err(Refusal::TooDeep { byte: self.at });
+                }
+                self.pass();
+                self.head(levels - 1)
+            }
+            _ => Err(self.bad_form()),
         }
-        if levels == 0 {
-            return Err(Refusal::TooDeep { byte: self.at });
-        }
-        self.pass();
-        self.head(levels - 1)
     }
 
     // What stands behind the bracket of a form.

@@ -16,26 +16,26 @@ use Rattle.sheet.proofs.Forming.{list-read, one-read, more-read, star-read}
 use Rattle.sheet.proofs.reader.Reader.+form+head+list+second+star.Needs as need
 
 -- a form
-pub form-returns-then-next-ne40 : need.form-returns-then-next-ne40
-form-returns-then-next-ne40 t c =
+pub form-returns-in-rest : need.form-returns-in-rest
+form-returns-in-rest t c =
     record {
       text = search needs;
       on = search needs;
-      reads = λ count w d is ts h m. subst (Tells count w) (sym (c .bad-form .ensures)) (tells-form h (form-stuck is _ (λ x. c .if-next-ne40 .taken (c .next .ensures .value ∙ sym x))));
+      reads = λ count w d is ts h m. subst (Tells count w) (sym (c .bad-form .ensures)) (tells-form h (form-stuck is (byte (c .args .self .now)) (λ x. let r = c .next .ensures .value in omega arith)));
     }
 
 pub form-returns-then-levels-eq0 : need.form-returns-then-levels-eq0
 form-returns-then-levels-eq0 t c =
-    let e : byte (c .args .self .now) ≡ 40 = sym (c .next .ensures .value) ∙ c .if-next-ne40 .left in
+    let e : byte (c .args .self .now) ≡ 40 = sym (c .next .ensures .value) ∙ c .in-40 .is in
     record {
       text = search needs;
       on = search needs;
       reads = λ count w d is ts h m. tells-deep {js = letter ∷ is} {us = []} (subst (λ l. Stands count w d (c .args .self .now) (form ∷ is) ts l) (c .if-levels-eq0 .taken) h) (byte-left (c .args .self .now) 40 e (omega arith)) (ap (step (form ∷ is)) e) e;
     }
 
-pub form-returns : need.form-returns
-form-returns t c =
-    let e : byte (c .args .self .now) ≡ 40 = sym (c .next .ensures .value) ∙ c .if-next-ne40 .left in
+pub form-returns-else-levels-eq0 : need.form-returns-else-levels-eq0
+form-returns-else-levels-eq0 t c =
+    let e : byte (c .args .self .now) ≡ 40 = sym (c .next .ensures .value) ∙ c .in-40 .is in
     record {
       text = search needs;
       on = search needs;
