@@ -11,6 +11,7 @@ use Rattle.std.proofs.shelf.Ways.{tells}
 use Rattle.std.proofs.shelf.Lists.{take-more-set, length-take-le, length-set}
 use Rattle.std.specs.declared.option.Option.{Option}
 use Rattle.std.specs.declared.option.Option.the-variants.{Some, None}
+use Rattle.meaning.proofs.DoerRules.{written-or-kept}
 use Rattle.meaning.specs.Doers.{Does, took, left, slip-rule, Tape, tape-rule}
 
 -- register r becomes n where n fits it, and the code is turned away where it does not
@@ -40,14 +41,6 @@ rule-no-digit rs code mark h k m = grind (arith, tells)
 -- a code of no meaning
 pub rule-unknown : (rs : List ℕ) (code mark : ℕ) → (code ≡ 0 → ⊥) → (16 ≤ code → code ≤ 23 → ⊥) → (32 ≤ code → code ≤ 39 → ⊥) → (48 ≤ code → code ≤ 55 → ⊥) → slip-rule rs code mark ≡ None
 rule-unknown rs code mark n h k m = grind (arith, tells)
-
--- a list that is written at one place has there what is written, or what it had
-pub written-or-kept : {A : Type 0} (xs : List A) (i r : ℕ) (a d : A) → (getD (set xs i a) r d ≡ a) ⊎ (getD (set xs i a) r d ≡ getD xs r d)
-written-or-kept [] i r a d = inr refl
-written-or-kept (x ∷ xs) zero zero a d = inl refl
-written-or-kept (x ∷ xs) zero (suc r) a d = inr refl
-written-or-kept (x ∷ xs) (suc i) zero a d = inr refl
-written-or-kept (x ∷ xs) (suc i) (suc r) a d = written-or-kept xs i r a d
 
 -- registers stay small where a small number is written
 pub small-set : (rs : List ℕ) (i n : ℕ) → ((r : ℕ) → r < 8 → getD rs r 0 ≤ 999999999999) → n ≤ 999999999999 → (r : ℕ) → r < 8 → getD (set rs i n) r 0 ≤ 999999999999

@@ -53,12 +53,13 @@ lines-of count (t ∷ ts) h =
     (h .0 .line ∷ ls, (h .0 .means, m), (h .0 .clear, c), omega arith)
 
 module _ {S : Type 0} (rule : Rule S) where
-  leads-append : {s t u : S} {gs hs : List Given} → Leads rule s gs t → Leads rule t hs u → Leads rule s (gs ++ hs) u
+  -- a rule leads on from where it led
+  pub leads-append : {s t u : S} {gs hs : List Given} → Leads rule s gs t → Leads rule t hs u → Leads rule s (gs ++ hs) u
   leads-append stays k = k
   leads-append (leads-on e h) k = leads-on e (leads-append h k)
 
   -- a play leads the doer through what it gives
-  play-leads : {ls : List Line} {extent : List ℕ} {place : ℕ} {s t : S} {gs : List Given} {pieces stop codes why : ℕ} → Plays rule ls extent place s gs pieces stop codes why t → Leads rule s gs t
+  pub play-leads : {ls : List Line} {extent : List ℕ} {place : ℕ} {s t : S} {gs : List Given} {pieces stop codes why : ℕ} → Plays rule ls extent place s gs pieces stop codes why t → Leads rule s gs t
   play-leads (at-end h) = stays
   play-leads (no-piece h z) = stays
   play-leads (broken rest c g e l r) = l

@@ -9,7 +9,7 @@ use Rattle.meaning.specs.Pieces.{Cut, Nothing-at}
 use Rattle.meaning.specs.Doers.{Given, Rule, Leads, stays, Gives}
 use Rattle.meaning.specs.Runs.{Plays, at-end, no-piece, broken, whole}
 use Rattle.playing.specs.Performances.{Offered, all, some}
-use Rattle.playing.proofs.Led.{leads-on}
+use Rattle.meaning.proofs.Answered.{play-leads}
 
 module _ {S : Type 0} (rule : Rule S) (ls : List Line) (extent : List ℕ) where
   -- from the start in the state s, pieces were played whole up to a place and the state t: a play from there is one from the start
@@ -67,7 +67,4 @@ module _ {S : Type 0} (rule : Rule S) (ls : List Line) (extent : List ℕ) where
 
   -- where a play leads
   pub plays-leads : {place : ℕ} {s t : S} {gs : List Given} {pieces stop codes why : ℕ} → Plays rule ls extent place s gs pieces stop codes why t → Leads rule s gs t
-  plays-leads (at-end e) = stays
-  plays-leads (no-piece h n) = stays
-  plays-leads (broken rest c g e l r) = l
-  plays-leads (whole c g l p) = leads-on l (plays-leads p)
+  plays-leads p = play-leads rule p

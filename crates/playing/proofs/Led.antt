@@ -12,6 +12,7 @@ use Rattle.std.specs.declared.option.Option.the-variants.{Some}
 use Rattle.std.proofs.shelf.Lists.{take-more, take-all, length-take-le, getD-append-left, getD-at, getD-map}
 use Rattle.meaning.specs.Bounds.{no-mark}
 use Rattle.meaning.specs.Words.{Pair, Line, Word, classes}
+use Rattle.meaning.proofs.Answered.{leads-append}
 use Rattle.meaning.specs.Doers.{Given, Rule, Leads, stays, takes, Does, took, left}
 use Rattle.playing.specs.Performances.{Offered, all, some}
 
@@ -58,8 +59,7 @@ ruled rule s code mark g c m e = ap (λ x. rule s x (g .mark)) c ∙ ap (rule s 
 
 module _ {S : Type 0} {rule : Rule S} where
   pub leads-on : {s t u : S} {gs hs : List Given} → Leads rule s gs t → Leads rule t hs u → Leads rule s (gs ++ hs) u
-  leads-on stays k = k
-  leads-on (takes e h) k = takes e (leads-on h k)
+  leads-on h k = leads-append _ h k
 
   was-taken : {s t : S} {code mark : ℕ} (b : Bool) → b ≡ true → Does rule s code mark b t → rule s code mark ≡ Some t
   was-taken true e (took d) = d

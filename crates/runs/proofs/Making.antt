@@ -11,8 +11,8 @@ use Rattle.std.specs.declared.result.Result.the-variants.{Ok, Err}
 use Rattle.std.proofs.shelf.Tests.{cases-eq}
 use Rattle.meaning.specs.declared.Piece.{Piece}
 use Rattle.meaning.specs.Words.{Line}
-use Rattle.meaning.specs.Doers.{Given, Rule, Leads, stays}
-use Rattle.meaning.specs.Runs.{Refusal, plain, Answer, answer-no, Account, fresh, open-for, Plays, at-end, no-piece, broken, whole, Listed, Step, reads, refuses-play, plays, Called, away, heard}
+use Rattle.meaning.specs.Doers.{Given, Rule, Leads}
+use Rattle.meaning.specs.Runs.{Refusal, plain, Answer, answer-no, Account, fresh, open-for, Plays, Listed, Step, reads, refuses-play, plays, Called, away, heard}
 use Rattle.meaning.specs.Asked.{Asked, ask-take, ask-strike, ask-build, ask-read, ask-play, gathered, Reply, no-for, told}
 use Rattle.sheet.specs.declared.refusal.Refusal.{Refusal as Declines}
 use Rattle.sheet.specs.declared.refusal.Refusal.the-variants.{NotOpen}
@@ -20,6 +20,7 @@ use Rattle.plate.specs.declared.desk.Desk.{Desk}
 use Rattle.plate.specs.Desks.{texts-of, account-of, answer-of}
 use Rattle.reading.specs.declared.cutting.Why.{Why}
 use Rattle.playing.specs.Performances.{play-answer, Performed, refuses, performs}
+use Rattle.meaning.proofs.Answered.{play-leads}
 use Rattle.playing.proofs.Led.{leads-on}
 use Rattle.runs.specs.declared.calling.Answer.{Answer as Tells}
 use Rattle.runs.specs.declared.calling.Answer.the-variants.{Refused, Number, Read, Played}
@@ -89,14 +90,6 @@ account-fresh d moves sets e b =
 of-error : {X E : Type 0} (P : X → Type 0) (Q : E → Type 0) (r : Result X E) (f : E) → r ≡ Err f → Cases r P Q → Q f
 of-error P Q r f e h = subst (λ x. Cases x P Q) e h
 
--- a play leads the doer through what it gives
-play-leads : {S : Type 0} {rule : Rule S} {ls : List Line} {extent : List ℕ} {place : ℕ} {s t : S} {gs : List Given} {pieces stop codes why : ℕ}
-    → Plays rule ls extent place s gs pieces stop codes why t → Leads rule s gs t
-play-leads (at-end h) = stays
-play-leads (no-piece h z) = stays
-play-leads (broken rest c g e l r) = l
-play-leads (whole c g l p) = leads-on l (play-leads p)
-
 module _ (count : ℕ) (some : 1 ≤ count) {S : Type 0} (rule : Rule S) (first : S) where
   -- on a plate of another count: refused 25, and nothing is changed
   made-away : (n : ℕ) (before : Account) (after : List Given → Account) (q : Asked) (list list′ : List Piece) (reply : Reply) (h : List Given) (t : S) → (n ≡ count → ⊥) → after h ≡ before
@@ -159,7 +152,7 @@ module _ (count : ℕ) (some : 1 ≤ count) {S : Type 0} (rule : Rule S) (first 
     performed extent list answer h s t here (refuses why-not) led =
         made-heard (d .count) _ (account-of d moves sets) (ask-play extent) list list _ _ h s here (refuses-play why-not) refl (refl, refl) led
     performed extent list answer h s t here (performs ls built short mean play) led =
-        made-heard (d .count) _ (account-of d moves sets) (ask-play extent) list list _ _ _ t here (plays ls built short mean led play) refl (refl, refl) (leads-on led (play-leads play))
+        made-heard (d .count) _ (account-of d moves sets) (ask-play extent) list list _ _ _ t here (plays ls built short mean led play) refl (refl, refl) (leads-on led (play-leads _ play))
 
     pub play-made : (extent : List ℕ) (list : List Piece) (r : Result (ℕ × ℕ × ℕ × Why) Declines) (reply : Reply) (h : List Given) (s t : S) → reply ≡ told (play-answer r)
         → ((d .count ≡ count → ⊥) → (r ≡ Err NotOpen) × (t ≡ s)) → (d .count ≡ count → Performed rule (account-of d moves sets h) extent s (play-answer r) t)
