@@ -16,7 +16,7 @@ use std::alloc::AllocError;
 use std::alloc::Global;
 
 // bytes of the input that count
-pub const MOST_INPUT: usize = 60_000;
+pub(crate) const MOST_INPUT: usize = 60_000;
 
 const LIST: usize = 2_048;
 // the codes of the listed pieces: a piece has two more than it has symbols
@@ -119,7 +119,7 @@ fn written(
 }
 
 // What is printed for an input: sheet lines, an empty line, and the extent.
-pub fn report(heap: Global, input: &[u8]) -> Result<String, AllocError> {
+pub(crate) fn report(heap: Global, input: &[u8]) -> Result<String, AllocError> {
     let input = if input.len() > MOST_INPUT {
         &input[0..MOST_INPUT]
     } else {
