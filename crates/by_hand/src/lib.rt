@@ -1,4 +1,5 @@
 // A program that makes the calls of a run itself, and has the law over runs from the contracts of the calls.
+#![tactic(auto)]
 
 mod hand;
 

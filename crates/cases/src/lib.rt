@@ -1,4 +1,5 @@
 // The worked cases and every limit from both sides, run as tests.
+#![tactic(auto)]
 
 #[cfg(test)]
 mod doing;

@@ -1,4 +1,6 @@
 // Takes each line of standard input on a fresh plate over bytes and prints the verdict: `taken`, or `refused` with number, layer and details.
+#![tactic(auto)]
+
 use plate::Plate;
 use positions::{MOST_CLASSES, MOST_LINES, MOST_STATES};
 use sheet::Refusal;

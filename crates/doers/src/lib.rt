@@ -1,4 +1,5 @@
 // Doers: what the codes of pieces drive. A doer has a state and a rule; the tape and the order slip are two of them.
+#![tactic(auto)]
 
 mod doer;
 mod slip;

@@ -1,3 +1,5 @@
+#![tactic(auto)]
+
 ghost use Rattle.meaning.specs.Alphabets.{PieceBelow, AlphabetLaw};
 ghost use Rattle.meaning.specs.TextLaws.{OneNumber, OneForm, OneList, OneLine, OneMeaning, NoFront, NothingBad, OneBad, Told, Balanced, OneWrong, OneFault, Judged, Limits};
 ghost use Rattle.meaning.specs.Laws.{MaskLaw, RangeLaw, FollowposLaw, PathLaw, ClashLaw, ClearLaw, SizeLaw, MeetLaw, FirstClashLaw};

@@ -1,4 +1,5 @@
 // A plate: the standing lines of a sheet and, once built, their scanner table in lent memory.
+#![tactic(auto)]
 
 mod build;
 mod cells;

@@ -1,4 +1,5 @@
 // Playing: finds pieces as read does and gives their codes to a doer.
+#![tactic(auto)]
 
 mod performing;
 

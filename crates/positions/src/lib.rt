@@ -1,5 +1,6 @@
 // The expression layer: a line's symbols and its position sets, where a class leads from a set, and whether positions of different codes meet.
 // Position p is bit p - 1 of a set; the end mark is the position behind the last symbol.
+#![tactic(auto)]
 
 mod draft;
 mod limits;

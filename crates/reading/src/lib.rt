@@ -1,4 +1,5 @@
 // Reading: cuts an extent into pieces by a built plate, and tests a whole extent against one line.
+#![tactic(auto)]
 
 mod cutting;
 mod testing;

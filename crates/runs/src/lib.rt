@@ -1,4 +1,5 @@
 // Whole runs: any calls, in any order and number, on one freshly opened plate and one doer.
+#![tactic(auto)]
 
 mod calling;
 mod running;

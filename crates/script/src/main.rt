@@ -1,3 +1,5 @@
+#![tactic(auto)]
+
 ghost use Rattle.std.specs.Prelude.{◌≤◌, length};
 // Makes the calls of a script, run by run, once on an order slip and once on a tape, and prints every answer and what the doers hold then.
 // A line is a call: `take LINE`, `strike`, `build`, `read ROOM TEXT`, `long ROOM LENGTH` (a read of as many digits 1), `play TEXT`; an empty line ends a run.

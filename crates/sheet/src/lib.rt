@@ -1,4 +1,5 @@
 // The text layer: a line's bytes become its record, or are refused.
+#![tactic(auto)]
 
 mod alphabet;
 mod entry;

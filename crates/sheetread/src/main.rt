@@ -1,4 +1,6 @@
 // Reads a sheet and an extent from standard input, and prints how the sheet's lines cut the extent and which codes each piece carries.
+#![tactic(auto)]
+
 mod report;
 #[cfg(test)]
 mod reports;

@@ -1,5 +1,7 @@
 // Prints the table that a build makes of each sheet on standard input: the states, the positions of each set, and the moves.
 // A sheet begins with the line `bytes` or `pieces`, its alphabet, and ends with an empty line.
+#![tactic(auto)]
+
 use meaning::Piece;
 use plate::Plate;
 use sheet::{Alphabet, Refusal};
