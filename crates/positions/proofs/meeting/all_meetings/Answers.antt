@@ -5,9 +5,9 @@ use Rattle.positions.proofs.meeting.all_meetings.Goals as goal
 
 pub loop-all-init : goal.loop-all-init
 loop-all-init c = (
-  c.add-all.ensures.word (omega arith),
-  closing_first c.args.first c.args.follow.now c.args.beside.now c.none-all.result c.add-all.new.self c.none-all.ensures
-      c.add-all.ensures,
+  c.add_all.ensures.word (omega arith),
+  closing_first c.args.first c.args.follow.now c.args.beside.now c.none-all.result c.add_all.new.self c.none-all.ensures
+      c.add_all.ensures,
 )
 
 pub bounds-all-p : goal.bounds-all-p
@@ -19,14 +19,14 @@ bounds-follow-p c = (lowest_out 64 c.loop-all.all.rows c.loop-all.invariant.0 c.
 pub loop-all-smaller : goal.loop-all-smaller
 loop-all-smaller c =
     let (l, o) = lowest_out 64 c.loop-all.all.rows c.loop-all.invariant.0 c.loop-all-test.true in
-    far_less c.loop-all.all c.add-all-in-loop-all.new.self _ o.less (c.add-all-in-loop-all.ensures.word (omega arith)) c.add-all-in-loop-all.ensures.fewer
+    far_less c.loop-all.all c.add_all-in-loop-all.new.self _ o.less (c.add_all-in-loop-all.ensures.word (omega arith)) c.add_all-in-loop-all.ensures.fewer
 
 pub loop-all-preserved : goal.loop-all-preserved
 loop-all-preserved c =
     let (l, o) = lowest_out 64 c.loop-all.all.rows c.loop-all.invariant.0 c.loop-all-test.true in (
-      c.add-all-in-loop-all.ensures.word (omega arith),
-      closing_next c.args.first c.args.follow.now c.args.beside.now c.loop-all.all c.add-all-in-loop-all.new.self _ _ c.union-next.result l
-          o.whole c.union-next.ensures c.loop-all.invariant.1 c.add-all-in-loop-all.ensures,
+      c.add_all-in-loop-all.ensures.word (omega arith),
+      closing_next c.args.first c.args.follow.now c.args.beside.now c.loop-all.all c.add_all-in-loop-all.new.self _ _ c.union-next.result l
+          o.whole c.union-next.ensures c.loop-all.invariant.1 c.add_all-in-loop-all.ensures,
     )
 
 pub returns : goal.returns

@@ -10,7 +10,7 @@ use Rattle.reading.proofs.Classes.{next_class}
 use Rattle.reading.proofs.Looking.{Looked, looked_is, looked_none, looked_below, on_below, looked_same, looked_more, looked_lost}
 use Rattle.reading.proofs.cutting.longest.Given as given
 use Rattle.reading.proofs.cutting.longest.Goals as goal
-use Rattle.reading.proofs.cutting.longest.Goals.{Left-loop-i, in-Some-accepts, in-default, else-loop-i-test, then-loop-i-test+in-None}
+use Rattle.reading.proofs.cutting.longest.Goals.{Left-loop-i, in-Some-accepts, in_default, else-loop-i-test, then-loop-i-test+in-None}
 
 pub loop-i-init : goal.loop-i-init
 loop-i-init g c = (
@@ -27,7 +27,7 @@ loop-i-preserved g c =
     let n = c.loop-i.i - c.args.place in (
       elim c.match-accepts.branch [
         | in-Some-accepts w ↦ λ h. (omega (arith, w.len-is), omega (arith, w.len-is))
-        | in-default w ↦ λ h. let o = c.loop-i.invariant.0 (omega (arith, w.len-is)) in (omega (arith, w.len-is), omega (arith, w.len-is))
+        | in_default w ↦ λ h. let o = c.loop-i.invariant.0 (omega (arith, w.len-is)) in (omega (arith, w.len-is), omega (arith, w.len-is))
       ],
       λ e b ls m.
           let a = c.loop-i.invariant.1 e b ls m in
@@ -42,11 +42,11 @@ loop-i-preserved g c =
                 (omega arith) (sym w.line-is) (omega (arith, w.len-is))
                 (looked_more p ls xs c.args.place m b n c.loop-i.state c.loop-i.line c.loop-i.len c.class.result a below next c.in-Some.next w.in-Some-accepts.k some
                 (sym (w.in-Some-accepts.ensures.inside fits)) (omega (arith, length-map c.args.extent.now g.A.Alphabet.classed)))
-            | in-default w ↦
+            | in_default w ↦
                 looked_is p ls xs c.args.place (n + 1) (c.loop-i.i + 1 - c.args.place) c.in-Some.next c.loop-i.line c.match-accepts.line c.loop-i.len c.match-accepts.len
                 (omega arith) (sym w.line-is) (sym w.len-is)
                 (looked_same p ls xs c.args.place m b n c.loop-i.state c.loop-i.line c.loop-i.len c.class.result a below next c.in-Some.next some
-                (sym (w.in-default.ensures.inside fits)))
+                (sym (w.in_default.ensures.inside fits)))
           ],
     )
 

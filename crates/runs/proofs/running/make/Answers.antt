@@ -58,11 +58,11 @@ returns-in-Build g c =
 pub returns-in-Read : goal.returns-in-Read
 returns-in-Read g c =
     let p = c.args.plate.now in
-    let done = c.read-into.ensures in
+    let done = c.read_into.ensures in
     record {
       made = λ first h led.
           read_made g.A.Alphabet.count g.met.A.Alphabet.counted.0 g.D.Doer.rule first p.desk p.moves.now p.sets.now (asked_of g.A.Alphabet.classed c.args.call.now)
-          (seen g.A.Alphabet.classed c.in-Read.extent.now) c.in-Read.field-1 (ap (asked_of g.A.Alphabet.classed) c.in-Read.is) _ _ c.read-into.result h _ done.away
+          (seen g.A.Alphabet.classed c.in-Read.extent.now) c.in-Read.field-1 (ap (asked_of g.A.Alphabet.classed) c.in-Read.is) _ _ c.read_into.result h _ done.away
           (λ e. done.heard e h) led;
       counted = refl {a = p.desk.count};
       names = (refl {a = p.moves.ghost_name}, refl {a = p.sets.ghost_name});
@@ -74,8 +74,8 @@ returns-in-Play g c =
     record {
       made = λ first h led.
           asked_made g.A.Alphabet.count g.met.A.Alphabet.counted.0 g.D.Doer.rule first p.desk p.moves.now p.sets.now (asked_of g.A.Alphabet.classed c.args.call.now)
-          (ask_play (seen g.A.Alphabet.classed c.in-Play.extent.now)) (ap (asked_of g.A.Alphabet.classed) c.in-Play.is) _ (reply_of c.play-to.result) h _
-          (c.play-to.ensures first h c.args.list.now led);
+          (ask_play (seen g.A.Alphabet.classed c.in-Play.extent.now)) (ap (asked_of g.A.Alphabet.classed) c.in-Play.is) _ (reply_of c.play_to.result) h _
+          (c.play_to.ensures first h c.args.list.now led);
       counted = refl {a = p.desk.count};
       names = (refl {a = p.moves.ghost_name}, refl {a = p.sets.ghost_name});
     }

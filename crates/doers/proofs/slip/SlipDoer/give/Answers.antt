@@ -11,13 +11,13 @@ returns-in-16-to-23 c =
     put_does _ _ c.args.code c.args.mark _ 0 _ (rule_clear c.args.self.now.registers c.args.code c.args.mark (omega arith) (omega arith)) c.put.ensures.taken
     c.put.ensures.registers
 
-pub returns-then-mark-lt-FIRST-DIGIT : goal.returns-then-mark-lt-FIRST-DIGIT
-returns-then-mark-lt-FIRST-DIGIT c = left (rule_no_digit c.args.self.now.registers c.args.code c.args.mark (omega arith) (omega arith) (λ h k. omega (arith, c.then-mark-lt-FIRST-DIGIT.either)))
+pub returns-then-mark-lt-FIRST_DIGIT : goal.returns-then-mark-lt-FIRST_DIGIT
+returns-then-mark-lt-FIRST_DIGIT c = left (rule_no_digit c.args.self.now.registers c.args.code c.args.mark (omega arith) (omega arith) (λ h k. omega (arith, c.then-mark-lt-FIRST_DIGIT.either)))
 
-pub returns-else-mark-gt-LAST-DIGIT : goal.returns-else-mark-gt-LAST-DIGIT
-returns-else-mark-gt-LAST-DIGIT c =
+pub returns-else-mark-gt-LAST_DIGIT : goal.returns-else-mark-gt-LAST_DIGIT
+returns-else-mark-gt-LAST_DIGIT c =
     put_does _ _ c.args.code c.args.mark _ _ _
-    (rule_digit c.args.self.now.registers c.args.code c.args.mark (omega arith) (omega arith) c.if-mark-lt-FIRST-DIGIT.false c.if-mark-gt-LAST-DIGIT.false)
+    (rule_digit c.args.self.now.registers c.args.code c.args.mark (omega arith) (omega arith) c.if-mark-lt-FIRST_DIGIT.false c.if-mark-gt-LAST_DIGIT.false)
     c.put-in-32-to-39.ensures.taken c.put-in-32-to-39.ensures.registers
 
 pub returns-in-48-to-55 : goal.returns-in-48-to-55
@@ -25,14 +25,14 @@ returns-in-48-to-55 c =
     put_does _ _ c.args.code c.args.mark _ _ _ (rule_count c.args.self.now.registers c.args.code c.args.mark (omega arith) (omega arith))
     c.put-in-48-to-55.ensures.taken c.put-in-48-to-55.ensures.registers
 
-pub returns-in-default : goal.returns-in-default
-returns-in-default c = left (rule_unknown c.args.self.now.registers c.args.code c.args.mark (omega arith) (λ h k. omega arith) (λ h k. omega arith) (λ h k. omega arith))
+pub returns-in_default : goal.returns-in_default
+returns-in_default c = left (rule_unknown c.args.self.now.registers c.args.code c.args.mark (omega arith) (λ h k. omega arith) (λ h k. omega arith) (λ h k. omega arith))
 
-pub returns-in-default·2 : goal.returns-in-default·2
-returns-in-default·2 c = left (rule_unknown c.args.self.now.registers c.args.code c.args.mark (omega arith) (λ h k. omega arith) (λ h k. omega arith) (λ h k. omega arith))
+pub returns-in_default-2 : goal.returns-in_default-2
+returns-in_default-2 c = left (rule_unknown c.args.self.now.registers c.args.code c.args.mark (omega arith) (λ h k. omega arith) (λ h k. omega arith) (λ h k. omega arith))
 
-pub returns-in-default·3 : goal.returns-in-default·3
-returns-in-default·3 c = left (rule_unknown c.args.self.now.registers c.args.code c.args.mark (omega arith) (λ h k. omega arith) (λ h k. omega arith) (λ h k. omega arith))
+pub returns-in_default-3 : goal.returns-in_default-3
+returns-in_default-3 c = left (rule_unknown c.args.self.now.registers c.args.code c.args.mark (omega arith) (λ h k. omega arith) (λ h k. omega arith) (λ h k. omega arith))
 
-pub returns-in-default·4 : goal.returns-in-default·4
-returns-in-default·4 c = left (rule_unknown c.args.self.now.registers c.args.code c.args.mark (omega arith) (λ h k. omega arith) (λ h k. omega arith) (λ h k. omega arith))
+pub returns-in_default-4 : goal.returns-in_default-4
+returns-in_default-4 c = left (rule_unknown c.args.self.now.registers c.args.code c.args.mark (omega arith) (λ h k. omega arith) (λ h k. omega arith) (λ h k. omega arith))

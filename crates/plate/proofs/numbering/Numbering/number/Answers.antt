@@ -6,9 +6,9 @@ pub returns-in-Some : goal.returns-in-Some
 returns-in-Some c =
     numbered_known c.args.self.now.states c.args.self.now.met c.args.state (omega arith) c.in-Some.s c.in-Some.ensures.0 c.in-Some.ensures.1
 
-pub returns-then-s-ge-MOST-STATES : goal.returns-then-s-ge-MOST-STATES
-returns-then-s-ge-MOST-STATES c =
-    numbered_none c.args.self.now.states c.args.self.now.met c.args.state (omega arith) (omega arith) c.in-default.ensures
+pub returns-then-s-ge-MOST_STATES : goal.returns-then-s-ge-MOST_STATES
+returns-then-s-ge-MOST_STATES c =
+    numbered_none c.args.self.now.states c.args.self.now.met c.args.state (omega arith) (omega arith) c.in_default.ensures
 
 pub returns : goal.returns
-returns c = numbered_new c.args.self.now.states c.args.self.now.met c.args.state (omega arith) (omega arith) c.in-default.ensures
+returns c = numbered_new c.args.self.now.states c.args.self.now.met c.args.state (omega arith) (omega arith) c.in_default.ensures

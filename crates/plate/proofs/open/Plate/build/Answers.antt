@@ -22,15 +22,15 @@ no_line e = let z : ◌≡◌ {A = ℕ} 0 1 = cc in omega arith
 
 pub returns-then-self-eq0 : goal.returns-then-self-eq0
 returns-then-self-eq0 g c = record {
-  away = λ n. absurd (n c.in-ok-hears.ensures);
+  away = λ n. absurd (n c.in_ok-hears.ensures);
   heard = λ _ h. empty (no_texts c.args.self.now.desk.entries c.args.self.now.desk.standing c.if-self-eq0.true);
   unchanged = λ _. (refl, refl, refl);
   lines = (refl, refl, refl);
   names = (refl, refl);
 }
 
-pub fill-moves-requires : goal.fill-moves-requires
-fill-moves-requires g c =
+pub fill_moves-requires : goal.fill_moves-requires
+fill_moves-requires g c =
     let same : c.clear.new.self.moves.now ≡ cleared c.args.self.now.moves.now (64 * c.clear.new.self.desk.count)
     = c.clear.ensures.moves ∙ ap (λ n. cleared c.args.self.now.moves.now (64 * n)) (sym c.clear.ensures.lines.2) in
     record {
@@ -41,25 +41,25 @@ fill-moves-requires g c =
           (c.new-numbering.ensures ∙ ap (λ s. s ∷ []) (c.start.ensures ls m)));
     }
 
-pub returns-then-not-fill-moves : goal.returns-then-not-fill-moves
-returns-then-not-fill-moves g c =
+pub returns-then-not-fill_moves : goal.returns-then-not-fill_moves
+returns-then-not-fill_moves g c =
     let first = c.clear.ensures in
-    let r = c.if-not-fill-moves.ensures in
-    let last = c.clear-then-not-fill-moves.ensures in
-    let heard = c.in-ok-hears.ensures in
+    let r = c.if-not-fill_moves.ensures in
+    let last = c.clear-then-not-fill_moves.ensures in
+    let heard = c.in_ok-hears.ensures in
     let counted = g.met.A.Alphabet.counted in
     let room : 512 ≤ length c.args.self.now.sets.now = c.args.self.now.masks (omega arith) in
     let once : 64 * c.clear.new.self.desk.count ≡ 64 * c.args.self.now.desk.count = ap (λ n. 64 * n) first.lines.2 in
-    let twice : 64 * c.fill-moves.new.self.desk.count ≡ 64 * c.args.self.now.desk.count = ap (λ d. 64 * d.count) r.desk ∙ once in
-    let moves : c.clear-then-not-fill-moves.new.self.moves.now ≡ cleared c.args.self.now.moves.now (64 * c.args.self.now.desk.count)
-    = cleared_again c.args.self.now.moves.now c.fill-moves.new.self.moves.now c.clear-then-not-fill-moves.new.self.moves.now _ _
-    (cleared_written c.args.self.now.moves.now c.clear.new.self.moves.now c.fill-moves.new.self.moves.now _ _ c.args.self.now.cells first.moves once r.beyond)
+    let twice : 64 * c.fill_moves.new.self.desk.count ≡ 64 * c.args.self.now.desk.count = ap (λ d. 64 * d.count) r.desk ∙ once in
+    let moves : c.clear-then-not-fill_moves.new.self.moves.now ≡ cleared c.args.self.now.moves.now (64 * c.args.self.now.desk.count)
+    = cleared_again c.args.self.now.moves.now c.fill_moves.new.self.moves.now c.clear-then-not-fill_moves.new.self.moves.now _ _
+    (cleared_written c.args.self.now.moves.now c.clear.new.self.moves.now c.fill_moves.new.self.moves.now _ _ c.args.self.now.cells first.moves once r.beyond)
     last.moves twice in
-    let sets : c.clear-then-not-fill-moves.new.self.sets.now ≡ cleared c.args.self.now.sets.now 512
-    = cleared_again c.args.self.now.sets.now c.fill-moves.new.self.sets.now c.clear-then-not-fill-moves.new.self.sets.now 512 512
-    (beyond_same c.args.self.now.sets.now (cleared c.args.self.now.sets.now 512) c.fill-moves.new.self.sets.now 512 (r.sets ∙ first.sets)
+    let sets : c.clear-then-not-fill_moves.new.self.sets.now ≡ cleared c.args.self.now.sets.now 512
+    = cleared_again c.args.self.now.sets.now c.fill_moves.new.self.sets.now c.clear-then-not-fill_moves.new.self.sets.now 512 512
+    (beyond_same c.args.self.now.sets.now (cleared c.args.self.now.sets.now 512) c.fill_moves.new.self.sets.now 512 (r.sets ∙ first.sets)
     (beyond_cleared c.args.self.now.sets.now 512 room)) last.sets refl in
-    let lines : SameLines c.args.self.now.desk c.clear-then-not-fill-moves.new.self.desk
+    let lines : SameLines c.args.self.now.desk c.clear-then-not-fill_moves.new.self.desk
     = (
       last.lines.0 ∙ ap (λ d. d.entries) r.desk ∙ first.lines.0,
       last.lines.1 ∙ ap (λ d. d.standing) r.desk ∙ first.lines.1,
@@ -72,55 +72,55 @@ returns-then-not-fill-moves g c =
       heard = λ e h.
           subst
           (λ k. Built k (account_of c.args.self.now.desk c.args.self.now.moves.now c.args.self.now.sets.now h) (answer_of (Err TooManyStates))
-          (account_of c.clear-then-not-fill-moves.new.self.desk c.clear-then-not-fill-moves.new.self.moves.now c.clear-then-not-fill-moves.new.self.sets.now h))
+          (account_of c.clear-then-not-fill_moves.new.self.desk c.clear-then-not-fill_moves.new.self.moves.now c.clear-then-not-fill_moves.new.self.sets.now h))
           e
-          (built_large c.args.self.now.desk.count c.args.self.now.desk c.clear-then-not-fill-moves.new.self.desk c.args.self.now.moves.now
-          c.args.self.now.sets.now c.clear-then-not-fill-moves.new.self.moves.now c.clear-then-not-fill-moves.new.self.sets.now h lines
+          (built_large c.args.self.now.desk.count c.args.self.now.desk c.clear-then-not-fill_moves.new.self.desk c.args.self.now.moves.now
+          c.args.self.now.sets.now c.clear-then-not-fill_moves.new.self.moves.now c.clear-then-not-fill_moves.new.self.sets.now h lines
           (omega (arith, c.if-self-eq0.false)) c.args.self.now.few last.built moves sets many);
       unchanged = ⊎_elim (λ e. absurd (not_open e)) (λ e. absurd (no_line e));
       lines = lines;
       names = (last.names.0 ∙ r.names.0 ∙ first.names.0, last.names.1 ∙ r.names.1 ∙ first.names.1);
     }
 
-pub invariant-of-self-2 : goal.invariant-of-self-2
-invariant-of-self-2 g c =
-    let r = c.if-not-fill-moves.ensures in
-    let heard = c.in-ok-hears.ensures in
+pub invariant_of-self-2 : goal.invariant_of-self-2
+invariant_of-self-2 g c =
+    let r = c.if-not-fill_moves.ensures in
+    let heard = c.in_ok-hears.ensures in
     let counted = g.met.A.Alphabet.counted in
     let room : 512 ≤ length c.args.self.now.sets.now = c.args.self.now.masks (omega arith) in
-    let done = finished c.args.self.now.desk c.clear.new.self.desk c.fill-sets.new.self.desk c.fill-accepts.new.self c.fill-moves.new.numbering
-    c.args.self.now.moves.now c.clear.new.self.moves.now c.fill-moves.new.self.moves.now c.fill-sets.new.self.moves.now
-    c.args.self.now.sets.now c.fill-moves.new.self.sets.now c.fill-sets.new.self.sets.now
+    let done = finished c.args.self.now.desk c.clear.new.self.desk c.fill_sets.new.self.desk c.fill_accepts.new.self c.fill_moves.new.numbering
+    c.args.self.now.moves.now c.clear.new.self.moves.now c.fill_moves.new.self.moves.now c.fill_sets.new.self.moves.now
+    c.args.self.now.sets.now c.fill_moves.new.self.sets.now c.fill_sets.new.self.sets.now
     (omega (arith, c.if-self-eq0.false)) c.args.self.now.few c.args.self.now.cells room
-    c.clear.ensures.lines c.clear.ensures.moves (r.sets ∙ c.clear.ensures.sets) (r.done refl) r.beyond c.fill-sets.ensures.moves
-    c.fill-sets.ensures.sets c.fill-sets.ensures.long (c.fill-sets.ensures.desk ∙ r.desk) c.fill-accepts.ensures.lines c.fill-accepts.ensures.accepts in
-    let k = kept c.args.self.now.desk c.fill-accepts.new.self c.fill-moves.new.numbering.met c.args.self.now.moves.now c.args.self.now.sets.now
-    c.fill-sets.new.self.moves.now c.fill-sets.new.self.sets.now done c.args.self.now.few c.args.self.now.counted c.args.self.now.cells room in
+    c.clear.ensures.lines c.clear.ensures.moves (r.sets ∙ c.clear.ensures.sets) (r.done refl) r.beyond c.fill_sets.ensures.moves
+    c.fill_sets.ensures.sets c.fill_sets.ensures.long (c.fill_sets.ensures.desk ∙ r.desk) c.fill_accepts.ensures.lines c.fill_accepts.ensures.accepts in
+    let k = kept c.args.self.now.desk c.fill_accepts.new.self c.fill_moves.new.numbering.met c.args.self.now.moves.now c.args.self.now.sets.now
+    c.fill_sets.new.self.moves.now c.fill_sets.new.self.sets.now done c.args.self.now.few c.args.self.now.counted c.args.self.now.cells room in
     (k.0, (k.1, (k.2, ((λ _. k.3), ((λ _. k.4), tt)))))
 
 pub returns : goal.returns
 returns g c =
-    let r = c.if-not-fill-moves.ensures in
-    let heard = c.in-ok-hears.ensures in
+    let r = c.if-not-fill_moves.ensures in
+    let heard = c.in_ok-hears.ensures in
     let counted = g.met.A.Alphabet.counted in
     let room : 512 ≤ length c.args.self.now.sets.now = c.args.self.now.masks (omega arith) in
-    let done = finished c.args.self.now.desk c.clear.new.self.desk c.fill-sets.new.self.desk c.fill-accepts.new.self c.fill-moves.new.numbering
-    c.args.self.now.moves.now c.clear.new.self.moves.now c.fill-moves.new.self.moves.now c.fill-sets.new.self.moves.now
-    c.args.self.now.sets.now c.fill-moves.new.self.sets.now c.fill-sets.new.self.sets.now
+    let done = finished c.args.self.now.desk c.clear.new.self.desk c.fill_sets.new.self.desk c.fill_accepts.new.self c.fill_moves.new.numbering
+    c.args.self.now.moves.now c.clear.new.self.moves.now c.fill_moves.new.self.moves.now c.fill_sets.new.self.moves.now
+    c.args.self.now.sets.now c.fill_moves.new.self.sets.now c.fill_sets.new.self.sets.now
     (omega (arith, c.if-self-eq0.false)) c.args.self.now.few c.args.self.now.cells room
-    c.clear.ensures.lines c.clear.ensures.moves (r.sets ∙ c.clear.ensures.sets) (r.done refl) r.beyond c.fill-sets.ensures.moves
-    c.fill-sets.ensures.sets c.fill-sets.ensures.long (c.fill-sets.ensures.desk ∙ r.desk) c.fill-accepts.ensures.lines c.fill-accepts.ensures.accepts in
+    c.clear.ensures.lines c.clear.ensures.moves (r.sets ∙ c.clear.ensures.sets) (r.done refl) r.beyond c.fill_sets.ensures.moves
+    c.fill_sets.ensures.sets c.fill_sets.ensures.long (c.fill_sets.ensures.desk ∙ r.desk) c.fill_accepts.ensures.lines c.fill_accepts.ensures.accepts in
     record {
       away = λ n. absurd (n heard);
       heard = λ e h.
           subst
-          (λ n. Built n (account_of c.args.self.now.desk c.args.self.now.moves.now c.args.self.now.sets.now h) (numbered c.fill-moves.new.numbering.met)
-          (record { texts = texts_of c.fill-accepts.new.self; built = true; history = h; moves = c.fill-sets.new.self.moves.now; sets = c.fill-sets.new.self.sets.now }))
+          (λ n. Built n (account_of c.args.self.now.desk c.args.self.now.moves.now c.args.self.now.sets.now h) (numbered c.fill_moves.new.numbering.met)
+          (record { texts = texts_of c.fill_accepts.new.self; built = true; history = h; moves = c.fill_sets.new.self.moves.now; sets = c.fill_sets.new.self.sets.now }))
           e
-          (built_made c.args.self.now.desk.count c.args.self.now.desk c.fill-accepts.new.self c.args.self.now.moves.now c.args.self.now.sets.now
-          c.fill-sets.new.self.moves.now c.fill-sets.new.self.sets.now h done.lines c.fill-moves.new.numbering.met done.table.0 done.table.1
+          (built_made c.args.self.now.desk.count c.args.self.now.desk c.fill_accepts.new.self c.args.self.now.moves.now c.args.self.now.sets.now
+          c.fill_sets.new.self.moves.now c.fill_sets.new.self.sets.now h done.lines c.fill_moves.new.numbering.met done.table.0 done.table.1
           done.moves_beyond done.sets_beyond);
       unchanged = ⊎_elim (λ e. absurd (answered _ e)) (λ e. absurd (answered _ e));
       lines = done.lines;
-      names = (c.fill-sets.ensures.names.0 ∙ r.names.0 ∙ c.clear.ensures.names.0, c.fill-sets.ensures.names.1 ∙ r.names.1 ∙ c.clear.ensures.names.1);
+      names = (c.fill_sets.ensures.names.0 ∙ r.names.0 ∙ c.clear.ensures.names.0, c.fill_sets.ensures.names.1 ∙ r.names.1 ∙ c.clear.ensures.names.1);
     }

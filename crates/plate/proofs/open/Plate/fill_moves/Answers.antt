@@ -9,8 +9,8 @@ use Rattle.plate.proofs.open.Plate.fill_moves.Goals as goal
 pub loop-s-init : goal.loop-s-init
 loop-s-init c = (c.requires.filled, (refl, refl), refl, refl, refl, refl)
 
-pub fill-row-requires : goal.fill-row-requires
-fill-row-requires c = record {
+pub fill_row-requires : goal.fill_row-requires
+fill_row-requires c = record {
   unbuilt = ap (λ d. d.built) c.loop-s.invariant.2 ∙ c.requires.unbuilt;
   known = c.loop-s-test.true;
   filled = subst (λ d. Filled d.count (texts_of d) c.loop-s.numbering c.loop-s.self.moves.now c.loop-s.s 0) (sym c.loop-s.invariant.2) c.loop-s.invariant.0;
@@ -18,9 +18,9 @@ fill-row-requires c = record {
 
 pub loop-s-preserved : goal.loop-s-preserved
 loop-s-preserved c =
-    let r = c.if-not-fill-row.ensures in
-    let b = subst (λ d. Beyond (64 * d.count) c.loop-s.self.moves.now c.fill-row.new.self.moves.now) c.loop-s.invariant.2 r.beyond in (
-      subst (λ d. Filled d.count (texts_of d) c.fill-row.new.numbering c.fill-row.new.self.moves.now (c.loop-s.s + 1) 0) c.loop-s.invariant.2 (r.done refl),
+    let r = c.if-not-fill_row.ensures in
+    let b = subst (λ d. Beyond (64 * d.count) c.loop-s.self.moves.now c.fill_row.new.self.moves.now) c.loop-s.invariant.2 r.beyond in (
+      subst (λ d. Filled d.count (texts_of d) c.fill_row.new.numbering c.fill_row.new.self.moves.now (c.loop-s.s + 1) 0) c.loop-s.invariant.2 (r.done refl),
       (b.0 ∙ c.loop-s.invariant.1.0, b.1 ∙ c.loop-s.invariant.1.1),
       r.desk ∙ c.loop-s.invariant.2,
       r.sets ∙ c.loop-s.invariant.3,
@@ -28,10 +28,10 @@ loop-s-preserved c =
       r.names.1 ∙ c.loop-s.invariant.5,
     )
 
-pub returns-then-not-fill-row : goal.returns-then-not-fill-row
-returns-then-not-fill-row c =
-    let r = c.if-not-fill-row.ensures in
-    let b = subst (λ d. Beyond (64 * d.count) c.loop-s.self.moves.now c.fill-row.new.self.moves.now) c.loop-s.invariant.2 r.beyond in
+pub returns-then-not-fill_row : goal.returns-then-not-fill_row
+returns-then-not-fill_row c =
+    let r = c.if-not-fill_row.ensures in
+    let b = subst (λ d. Beyond (64 * d.count) c.loop-s.self.moves.now c.fill_row.new.self.moves.now) c.loop-s.invariant.2 r.beyond in
     record {
       done = λ e. absurd (both_ways false refl e);
       many = λ _. subst (λ d. TooMany d.count (texts_of d)) c.loop-s.invariant.2 (r.many refl);

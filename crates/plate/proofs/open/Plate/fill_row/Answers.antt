@@ -76,8 +76,8 @@ loop-c-preserved c =
           )
     ]
 
-pub returns-in-default : goal.returns-in-default
-returns-in-default c =
+pub returns-in_default : goal.returns-in_default
+returns-in_default c =
     let below : c.loop-c.c < 256 = omega (arith, c.args.self.now.counted, c.loop-c-test.true) in
     let told = told_apart c.ne.result c.ne.ensures.0 (c.step-next.result ≡ nowhere) (slice_eq-Decides Decides-eqb c.step-next.result nowhere c.ne.ensures.0 c.ne.ensures.1) c.ne.ensures.2 in
     record {
@@ -86,7 +86,7 @@ returns-in-default c =
           filling_many c.args.self.now.desk.count ls (met_of c.loop-c.numbering) c.loop-c.self.moves.now c.args.s c.loop-c.c (c.loop-c.invariant.0 ls m some)
           c.loop-c.invariant.2 c.loop-c-test.true c.step-next.result
           (c.step-next.ensures ls (subst (λ d. Mean (texts_of d) ls) (sym c.loop-c.invariant.4) m) below ∙ ap (step ls c.loop-c.c) (sym c.loop-c.invariant.3))
-          c.in-default.ensures.1 (told.0 c.if-ne.true) c.in-default.ensures.0;
+          c.in_default.ensures.1 (told.0 c.if-ne.true) c.in_default.ensures.0;
       beyond = c.loop-c.invariant.1;
       desk = c.loop-c.invariant.4;
       sets = c.loop-c.invariant.5;
@@ -109,8 +109,8 @@ bounds-self-s c =
     omega (arith, mul-add-lt c.args.s c.args.self.now.desk.count c.loop-c.c 64 (omega (arith, c.loop-c.invariant.2, met_length c.loop-c.numbering)) c.loop-c-test.true, c.args.self.now.cells, c.loop-c.invariant.1.0)
 
 -- the plate is not built
-pub invariant-of-self : goal.invariant-of-self
-invariant-of-self c =
+pub invariant_of-self : goal.invariant_of-self
+invariant_of-self c =
     let same = length-set c.loop-c.self.moves.now (c.args.s * c.args.self.now.desk.count + c.loop-c.c) (c.in-Some.t + 1) in (
       c.loop-c.self.few,
       (

@@ -34,8 +34,8 @@ returns c = record {
 }
 
 -- the plate is not built
-pub invariant-of-self : goal.invariant-of-self
-invariant-of-self c = (
+pub invariant_of-self : goal.invariant_of-self
+invariant_of-self c = (
   c.loop-i.self.few,
   (
     c.loop-i.self.counted,

@@ -3,8 +3,8 @@ use Rattle.std.proofs.lemmas.Bool.{both_ways}
 use Rattle.meaning.specs.Runs.{Room}
 use Rattle.plate.proofs.open.Plate.open.Goals as goal
 
-pub invariant-of-result-2 : goal.invariant-of-result-2
-invariant-of-result-2 g c =
+pub invariant_of-result-2 : goal.invariant_of-result-2
+invariant_of-result-2 g c =
     let room : Room g.A.Alphabet.count c.args.moves.now c.args.sets.now = search rules in
     let counted = g.met.A.Alphabet.counted in
     let few : c.new-2.result.standing ≤ 8 = omega arith in

@@ -15,14 +15,14 @@ place : (s : Sets) (l : Line) (set class p : ℕ) → SetsOf l s → class < 256
 place s l set class p o h m =
     ∥∥₁_elim s.masks (ℕ_set _ p) (λ k. lowest_is l s.count s.symbols s.first s.follow s.holds set class p s.few o k h m)
 
-pub returns-then-p-lt-MOST-SYMBOLS : goal.returns-then-p-lt-MOST-SYMBOLS
-returns-then-p-lt-MOST-SYMBOLS c l p o h m =
+pub returns-then-p-lt-MOST_SYMBOLS : goal.returns-then-p-lt-MOST_SYMBOLS
+returns-then-p-lt-MOST_SYMBOLS c l p o h m =
     let s : Sets = c.args.self.now in
     let e = place s l c.args.set c.args.class p o h m in
     ap (λ i. (get_or s.symbols i no_symbol).code) (omega arith)
     ∙ ap (λ x. x.code) (symbol_is l s.count s.symbols s.first s.follow o p m.fits.0 (omega (arith, o.count_is, m.fits.1)))
 
-pub returns-else-p-lt-MOST-SYMBOLS : goal.returns-else-p-lt-MOST-SYMBOLS
-returns-else-p-lt-MOST-SYMBOLS c l p o h m =
+pub returns-else-p-lt-MOST_SYMBOLS : goal.returns-else-p-lt-MOST_SYMBOLS
+returns-else-p-lt-MOST_SYMBOLS c l p o h m =
     let e = place c.args.self.now l c.args.set c.args.class p o h m in
     absurd (omega (arith, o.count_is, m.fits.1, c.args.self.now.few))

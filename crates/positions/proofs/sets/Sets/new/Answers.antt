@@ -6,8 +6,8 @@ use Rattle.positions.proofs.Closing.{closed}
 use Rattle.positions.proofs.sets.Sets.new.Goals as goal
 use Rattle.positions.proofs.sets.Sets.new.Goals.{then-nullable, else-nullable}
 
-pub invariant-of-result : goal.invariant-of-result
-invariant-of-result c = (c.args.draft.few, (∣ c.class-masks.ensures ∣₁, tt))
+pub invariant_of-result : goal.invariant_of-result
+invariant_of-result c = record {few = c.args.draft.few; masks = ∣ c.class_masks.ensures ∣₁}
 
 pub returns : goal.returns
 returns c l d =
@@ -16,6 +16,6 @@ returns c l d =
     (closed l c.args.draft.count c.args.draft.symbols c.args.draft.follow c.link.new.self.follow c.args.nullable c.args.first
     c.args.last c.if-nullable.first c.args.draft.few (search rules) d c.link.ensures.follow
     (elim c.if-nullable.branch [
-      | then-nullable w ↦ w.first_is ∙ ap joined (sym w.if-nullable.true)
-      | else-nullable w ↦ w.first_is ∙ sym (or_zero_r c.args.first) ∙ ap joined (sym w.if-nullable.false)
+      | then-nullable w ↦ w.first-is ∙ ap joined (sym w.if-nullable.true)
+      | else-nullable w ↦ w.first-is ∙ sym (or_zero_r c.args.first) ∙ ap joined (sym w.if-nullable.false)
     ]))

@@ -2,8 +2,8 @@ use Rattle.std.proofs.Common.{arith}
 use Rattle.sheet.proofs.Recording.{blank_line, blank_drafted, blank_records}
 use Rattle.sheet.proofs.entry.Entry.blank.Goals as goal
 
-pub invariant-of-result : goal.invariant-of-result
-invariant-of-result c = (
+pub invariant_of-result : goal.invariant_of-result
+invariant_of-result c = (
   omega arith,
   (
     omega arith,

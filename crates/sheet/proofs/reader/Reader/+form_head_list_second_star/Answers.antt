@@ -10,12 +10,12 @@ use Rattle.sheet.proofs.Forming.{list_read, one_read, more_read, star_read}
 use Rattle.sheet.proofs.reader.Reader.+form_head_list_second_star.Goals as goal
 
 -- a form
-pub form-returns-in-default : goal.form-returns-in-default
-form-returns-in-default t c =
+pub form-returns-in_default : goal.form-returns-in_default
+form-returns-in_default t c =
     record {
       text = search rules;
       on = search rules;
-      reads = λ count w d is ts h m. subst (Tells count w) (sym c.bad-form.ensures) (tells_form h (form_stuck is (byte c.args.self.now) (λ x. let r = c.next.ensures.value in omega arith)));
+      reads = λ count w d is ts h m. subst (Tells count w) (sym c.bad_form.ensures) (tells_form h (form_stuck is (byte c.args.self.now) (λ x. let r = c.next.ensures.value in omega arith)));
     }
 
 pub form-returns-then-levels-eq0 : goal.form-returns-then-levels-eq0
@@ -39,43 +39,43 @@ form-returns-else-levels-eq0 t c =
     }
 
 -- a form behind its bracket
-pub head-returns-in-err-expect : goal.head-returns-in-err-expect
-head-returns-in-err-expect t c =
+pub head-returns-in_err-expect : goal.head-returns-in_err-expect
+head-returns-in_err-expect t c =
     let e : byte c.args.self.now ≡ 97 = sym c.next.ensures.value ∙ c.in-a.is in
-    let p = err_from_is_err_and c.from-residual.result c.from-residual.ensures.1 in
+    let p = err_from_is_err_and c.from_residual.result c.from_residual.ensures.1 in
     record {
       text = search rules;
       on = search rules;
-      reads = λ count w d is ts h m. let s1 = turn 97 (rest 108 (ascii "t ") (fixed (ascii "(alt ")) ∷ form ∷ listing ∷ is) [] c.args.levels h e (omega arith) c.pass.ensures.one refl refl tt in rw (p.1, p.2) (c.in-err-expect.ensures.reads count w d _ _ _ _ ts _ c.args.levels c.args.levels s1 refl refl);
+      reads = λ count w d is ts h m. let s1 = turn 97 (rest 108 (ascii "t ") (fixed (ascii "(alt ")) ∷ form ∷ listing ∷ is) [] c.args.levels h e (omega arith) c.pass.ensures.one refl refl tt in rw (p.1, p.2) (c.in_err-expect.ensures.reads count w d _ _ _ _ ts _ c.args.levels c.args.levels s1 refl refl);
     }
 
-pub head-returns-in-err-expect-2 : goal.head-returns-in-err-expect-2
-head-returns-in-err-expect-2 t c =
+pub head-returns-in_err-expect-2 : goal.head-returns-in_err-expect-2
+head-returns-in_err-expect-2 t c =
     let e : byte c.args.self.now ≡ 97 = sym c.next.ensures.value ∙ c.in-a.is in
-    let p = err_from_is_err_and c.from-residual-in-err-expect-2.result c.from-residual-in-err-expect-2.ensures.1 in
+    let p = err_from_is_err_and c.from_residual-in_err-expect-2.result c.from_residual-in_err-expect-2.ensures.1 in
     record {
       text = search rules;
       on = search rules;
-      reads = λ count w d is ts h m. let s1 = turn 97 (rest 108 (ascii "t ") (fixed (ascii "(alt ")) ∷ form ∷ listing ∷ is) [] c.args.levels h e (omega arith) c.pass.ensures.one refl refl tt in let s2 = c.in-ok-expect.ensures.reads count w d _ _ _ _ ts _ c.args.levels c.args.levels s1 refl refl in rw (p.1, p.2) (c.in-err-expect-2.ensures.reads count w d _ _ _ _ ts _ c.args.levels c.args.levels s2 refl refl);
+      reads = λ count w d is ts h m. let s1 = turn 97 (rest 108 (ascii "t ") (fixed (ascii "(alt ")) ∷ form ∷ listing ∷ is) [] c.args.levels h e (omega arith) c.pass.ensures.one refl refl tt in let s2 = c.in_ok-expect.ensures.reads count w d _ _ _ _ ts _ c.args.levels c.args.levels s1 refl refl in rw (p.1, p.2) (c.in_err-expect-2.ensures.reads count w d _ _ _ _ ts _ c.args.levels c.args.levels s2 refl refl);
     }
 
-pub head-returns-in-err-expect-3 : goal.head-returns-in-err-expect-3
-head-returns-in-err-expect-3 t c =
+pub head-returns-in_err-expect-3 : goal.head-returns-in_err-expect-3
+head-returns-in_err-expect-3 t c =
     let e : byte c.args.self.now ≡ 97 = sym c.next.ensures.value ∙ c.in-a.is in
-    let p = err_from_is_err_and c.from-residual-in-err-expect-3.result c.from-residual-in-err-expect-3.ensures.1 in
+    let p = err_from_is_err_and c.from_residual-in_err-expect-3.result c.from_residual-in_err-expect-3.ensures.1 in
     record {
       text = search rules;
       on = search rules;
-      reads = λ count w d is ts h m. let s1 = turn 97 (rest 108 (ascii "t ") (fixed (ascii "(alt ")) ∷ form ∷ listing ∷ is) [] c.args.levels h e (omega arith) c.pass.ensures.one refl refl tt in let s2 = c.in-ok-expect.ensures.reads count w d _ _ _ _ ts _ c.args.levels c.args.levels s1 refl refl in let s3 = c.in-ok-expect-2.ensures.reads count w d _ _ _ _ ts _ c.args.levels c.args.levels s2 refl refl in rw (p.1, p.2) (c.in-err-expect-3.ensures.reads count w d _ _ _ _ ts _ c.args.levels c.args.levels s3 refl refl);
+      reads = λ count w d is ts h m. let s1 = turn 97 (rest 108 (ascii "t ") (fixed (ascii "(alt ")) ∷ form ∷ listing ∷ is) [] c.args.levels h e (omega arith) c.pass.ensures.one refl refl tt in let s2 = c.in_ok-expect.ensures.reads count w d _ _ _ _ ts _ c.args.levels c.args.levels s1 refl refl in let s3 = c.in_ok-expect-2.ensures.reads count w d _ _ _ _ ts _ c.args.levels c.args.levels s2 refl refl in rw (p.1, p.2) (c.in_err-expect-3.ensures.reads count w d _ _ _ _ ts _ c.args.levels c.args.levels s3 refl refl);
     }
 
-pub head-returns-in-ok-expect-3 : goal.head-returns-in-ok-expect-3
-head-returns-in-ok-expect-3 t c =
+pub head-returns-in_ok-expect-3 : goal.head-returns-in_ok-expect-3
+head-returns-in_ok-expect-3 t c =
     let e : byte c.args.self.now ≡ 97 = sym c.next.ensures.value ∙ c.in-a.is in
     record {
       text = search rules;
       on = search rules;
-      reads = λ count w d is ts h m. let s1 = turn 97 (rest 108 (ascii "t ") (fixed (ascii "(alt ")) ∷ form ∷ listing ∷ is) [] c.args.levels h e (omega arith) c.pass.ensures.one refl refl tt in let s2 = c.in-ok-expect.ensures.reads count w d _ _ _ _ ts _ c.args.levels c.args.levels s1 refl refl in let s3 = c.in-ok-expect-2.ensures.reads count w d _ _ _ _ ts _ c.args.levels c.args.levels s2 refl refl in let s4 = c.in-ok-expect-3.ensures.reads count w d _ _ _ _ ts _ c.args.levels c.args.levels s3 refl refl in
+      reads = λ count w d is ts h m. let s1 = turn 97 (rest 108 (ascii "t ") (fixed (ascii "(alt ")) ∷ form ∷ listing ∷ is) [] c.args.levels h e (omega arith) c.pass.ensures.one refl refl tt in let s2 = c.in_ok-expect.ensures.reads count w d _ _ _ _ ts _ c.args.levels c.args.levels s1 refl refl in let s3 = c.in_ok-expect-2.ensures.reads count w d _ _ _ _ ts _ c.args.levels c.args.levels s2 refl refl in let s4 = c.in_ok-expect-3.ensures.reads count w d _ _ _ _ ts _ c.args.levels c.args.levels s3 refl refl in
           MatchResult-weaker c.list.result (c.list.ensures.reads count w d is _ s4 m) (λ part r. list_read Alt r) (λ f r. r);
     }
 
@@ -97,45 +97,45 @@ head-returns-in-s t c =
       reads = λ count w d is ts h m. c.second.ensures.reads count w d is ts (turn 115 (second ∷ is) [] c.args.levels h e (omega arith) c.pass-in-s.ensures.one refl refl tt) m;
     }
 
-pub head-returns-in-default : goal.head-returns-in-default
-head-returns-in-default t c =
+pub head-returns-in_default : goal.head-returns-in_default
+head-returns-in_default t c =
     record {
       text = search rules;
       on = search rules;
-      reads = λ count w d is ts h m. subst (Tells count w) (sym c.bad-form.ensures) (tells_form h (letter_stuck is (byte c.args.self.now) (λ x. let r = c.next.ensures.value in omega arith) (λ x. let r = c.next.ensures.value in omega arith) (λ x. let r = c.next.ensures.value in omega arith)));
+      reads = λ count w d is ts h m. subst (Tells count w) (sym c.bad_form.ensures) (tells_form h (letter_stuck is (byte c.args.self.now) (λ x. let r = c.next.ensures.value in omega arith) (λ x. let r = c.next.ensures.value in omega arith) (λ x. let r = c.next.ensures.value in omega arith)));
     }
 
 -- a list
-pub list-returns-in-err-one : goal.list-returns-in-err-one
-list-returns-in-err-one t c =
-    let p = err_from_is_err_and c.from-residual.result c.from-residual.ensures.1 in
+pub list-returns-in_err-one : goal.list-returns-in_err-one
+list-returns-in_err-one t c =
+    let p = err_from_is_err_and c.from_residual.result c.from_residual.ensures.1 in
     record {
       text = search rules;
       on = search rules;
-      reads = λ count w d is ts h m. rw (p.1, p.2) (c.in-err-one.ensures.reads count w d (listing ∷ is) ts h m);
+      reads = λ count w d is ts h m. rw (p.1, p.2) (c.in_err-one.ensures.reads count w d (listing ∷ is) ts h m);
     }
 
-pub list-returns-in-err-rest : goal.list-returns-in-err-rest
-list-returns-in-err-rest t c =
+pub list-returns-in_err-rest : goal.list-returns-in_err-rest
+list-returns-in_err-rest t c =
     let e : byte c.form.new.self ≡ 32 = sym c.next.ensures.value ∙ c.in-32.is in
-    let p = err_from_is_err_and c.from-residual-in-err-rest.result c.from-residual-in-err-rest.ensures.1 in
+    let p = err_from_is_err_and c.from_residual-in_err-rest.result c.from_residual-in_err-rest.ensures.1 in
     record {
       text = search rules;
       on = search rules;
-      reads = λ count w d is ts h m. let r = c.in-ok-one.ensures.reads count w d (listing ∷ is) ts h m in
+      reads = λ count w d is ts h m. let r = c.in_ok-one.ensures.reads count w d (listing ∷ is) ts h m in
           let s = turn 32 (form ∷ listing ∷ is) (fixed (ascii " ") ∷ []) c.args.levels r.stands e (omega arith) c.pass.ensures.one refl refl tt in
-          rw (p.1, p.2) (c.in-err-rest.ensures.reads count w r.after is _ s r.heads_are);
+          rw (p.1, p.2) (c.in_err-rest.ensures.reads count w r.after is _ s r.heads_are);
     }
 
-pub list-returns-in-ok-rest : goal.list-returns-in-ok-rest
-list-returns-in-ok-rest t c =
+pub list-returns-in_ok-rest : goal.list-returns-in_ok-rest
+list-returns-in_ok-rest t c =
     let e : byte c.form.new.self ≡ 32 = sym c.next.ensures.value ∙ c.in-32.is in
     record {
       text = search rules;
       on = search rules;
-      reads = λ count w d is ts h m. let r = c.in-ok-one.ensures.reads count w d (listing ∷ is) ts h m in
+      reads = λ count w d is ts h m. let r = c.in_ok-one.ensures.reads count w d (listing ∷ is) ts h m in
           let s = turn 32 (form ∷ listing ∷ is) (fixed (ascii " ") ∷ []) c.args.levels r.stands e (omega arith) c.pass.ensures.one refl refl tt in
-          more_read c.args.join _ r (c.in-ok-rest.ensures.reads count w r.after is _ s r.heads_are) (record { text_is = refl; counts = refl; place = refl }) c.joined.ensures.count c.joined.ensures.adds;
+          more_read c.args.join _ r (c.in_ok-rest.ensures.reads count w r.after is _ s r.heads_are) (record { text_is = refl; counts = refl; place = refl }) c.joined.ensures.count c.joined.ensures.adds;
     }
 
 pub list-returns-in-41 : goal.list-returns-in-41
@@ -144,38 +144,38 @@ list-returns-in-41 t c =
     record {
       text = search rules;
       on = search rules;
-      reads = λ count w d is ts h m. let r = c.in-ok-one.ensures.reads count w d (listing ∷ is) ts h m in
+      reads = λ count w d is ts h m. let r = c.in_ok-one.ensures.reads count w d (listing ∷ is) ts h m in
           one_read c.args.join r (turn 41 is (closing ∷ []) (c.args.levels + 1) r.stands e (omega arith) c.pass-in-41.ensures.one refl (omega arith) tt);
     }
 
-pub list-returns-in-default : goal.list-returns-in-default
-list-returns-in-default t c =
+pub list-returns-in_default : goal.list-returns-in_default
+list-returns-in_default t c =
     record {
       text = search rules;
       on = search rules;
-      reads = λ count w d is ts h m. let r = c.in-ok-one.ensures.reads count w d (listing ∷ is) ts h m in
-          subst (Tells count w) (sym c.bad-form.ensures) (tells_form r.stands (listing_stuck is (byte c.form.new.self) (λ x. let r = c.next.ensures.value in omega arith) (λ x. let r = c.next.ensures.value in omega arith)));
+      reads = λ count w d is ts h m. let r = c.in_ok-one.ensures.reads count w d (listing ∷ is) ts h m in
+          subst (Tells count w) (sym c.bad_form.ensures) (tells_form r.stands (listing_stuck is (byte c.form.new.self) (λ x. let r = c.next.ensures.value in omega arith) (λ x. let r = c.next.ensures.value in omega arith)));
     }
 
 -- a form behind `(s`
-pub second-returns-in-err-expect : goal.second-returns-in-err-expect
-second-returns-in-err-expect t c =
+pub second-returns-in_err-expect : goal.second-returns-in_err-expect
+second-returns-in_err-expect t c =
     let e : byte c.args.self.now ≡ 101 = sym c.next.ensures.value ∙ c.in-e.is in
-    let p = err_from_is_err_and c.from-residual.result c.from-residual.ensures.1 in
+    let p = err_from_is_err_and c.from_residual.result c.from_residual.ensures.1 in
     record {
       text = search rules;
       on = search rules;
-      reads = λ count w d is ts h m. let s1 = turn 101 (rest 113 (ascii " ") (fixed (ascii "(seq ")) ∷ form ∷ listing ∷ is) [] c.args.levels h e (omega arith) c.pass-in-e.ensures.one refl refl tt in rw (p.1, p.2) (c.in-err-expect.ensures.reads count w d _ _ _ _ ts _ c.args.levels c.args.levels s1 refl refl);
+      reads = λ count w d is ts h m. let s1 = turn 101 (rest 113 (ascii " ") (fixed (ascii "(seq ")) ∷ form ∷ listing ∷ is) [] c.args.levels h e (omega arith) c.pass-in-e.ensures.one refl refl tt in rw (p.1, p.2) (c.in_err-expect.ensures.reads count w d _ _ _ _ ts _ c.args.levels c.args.levels s1 refl refl);
     }
 
-pub second-returns-in-err-expect-2 : goal.second-returns-in-err-expect-2
-second-returns-in-err-expect-2 t c =
+pub second-returns-in_err-expect-2 : goal.second-returns-in_err-expect-2
+second-returns-in_err-expect-2 t c =
     let e : byte c.args.self.now ≡ 101 = sym c.next.ensures.value ∙ c.in-e.is in
-    let p = err_from_is_err_and c.from-residual-in-err-expect-2.result c.from-residual-in-err-expect-2.ensures.1 in
+    let p = err_from_is_err_and c.from_residual-in_err-expect-2.result c.from_residual-in_err-expect-2.ensures.1 in
     record {
       text = search rules;
       on = search rules;
-      reads = λ count w d is ts h m. let s1 = turn 101 (rest 113 (ascii " ") (fixed (ascii "(seq ")) ∷ form ∷ listing ∷ is) [] c.args.levels h e (omega arith) c.pass-in-e.ensures.one refl refl tt in let s2 = c.in-ok-expect.ensures.reads count w d _ _ _ _ ts _ c.args.levels c.args.levels s1 refl refl in rw (p.1, p.2) (c.in-err-expect-2.ensures.reads count w d _ _ _ _ ts _ c.args.levels c.args.levels s2 refl refl);
+      reads = λ count w d is ts h m. let s1 = turn 101 (rest 113 (ascii " ") (fixed (ascii "(seq ")) ∷ form ∷ listing ∷ is) [] c.args.levels h e (omega arith) c.pass-in-e.ensures.one refl refl tt in let s2 = c.in_ok-expect.ensures.reads count w d _ _ _ _ ts _ c.args.levels c.args.levels s1 refl refl in rw (p.1, p.2) (c.in_err-expect-2.ensures.reads count w d _ _ _ _ ts _ c.args.levels c.args.levels s2 refl refl);
     }
 
 pub second-returns-in-y : goal.second-returns-in-y
@@ -187,13 +187,13 @@ second-returns-in-y t c =
       reads = λ count w d is ts h m. c.symbol.ensures.reads c.args.levels count w d is ts (turn 121 _ [] c.args.levels h e (omega arith) c.pass.ensures.one refl refl tt) m;
     }
 
-pub second-returns-in-ok-expect-2 : goal.second-returns-in-ok-expect-2
-second-returns-in-ok-expect-2 t c =
+pub second-returns-in_ok-expect-2 : goal.second-returns-in_ok-expect-2
+second-returns-in_ok-expect-2 t c =
     let e : byte c.args.self.now ≡ 101 = sym c.next.ensures.value ∙ c.in-e.is in
     record {
       text = search rules;
       on = search rules;
-      reads = λ count w d is ts h m. let s1 = turn 101 (rest 113 (ascii " ") (fixed (ascii "(seq ")) ∷ form ∷ listing ∷ is) [] c.args.levels h e (omega arith) c.pass-in-e.ensures.one refl refl tt in let s2 = c.in-ok-expect.ensures.reads count w d _ _ _ _ ts _ c.args.levels c.args.levels s1 refl refl in let s3 = c.in-ok-expect-2.ensures.reads count w d _ _ _ _ ts _ c.args.levels c.args.levels s2 refl refl in
+      reads = λ count w d is ts h m. let s1 = turn 101 (rest 113 (ascii " ") (fixed (ascii "(seq ")) ∷ form ∷ listing ∷ is) [] c.args.levels h e (omega arith) c.pass-in-e.ensures.one refl refl tt in let s2 = c.in_ok-expect.ensures.reads count w d _ _ _ _ ts _ c.args.levels c.args.levels s1 refl refl in let s3 = c.in_ok-expect-2.ensures.reads count w d _ _ _ _ ts _ c.args.levels c.args.levels s2 refl refl in
           MatchResult-weaker c.list.result (c.list.ensures.reads count w d is _ s3 m) (λ part r. list_read Seq r) (λ f r. r);
     }
 
@@ -206,61 +206,61 @@ second-returns-in-t t c =
       reads = λ count w d is ts h m. c.star.ensures.reads count w d is ts (turn 116 _ [] c.args.levels h e (omega arith) c.pass-in-t.ensures.one refl refl tt) m;
     }
 
-pub second-returns-in-default : goal.second-returns-in-default
-second-returns-in-default t c =
+pub second-returns-in_default : goal.second-returns-in_default
+second-returns-in_default t c =
     record {
       text = search rules;
       on = search rules;
-      reads = λ count w d is ts h m. subst (Tells count w) (sym c.bad-form.ensures) (tells_form h (second_stuck is (byte c.args.self.now) (λ x. let r = c.next.ensures.value in omega arith) (λ x. let r = c.next.ensures.value in omega arith) (λ x. let r = c.next.ensures.value in omega arith)));
+      reads = λ count w d is ts h m. subst (Tells count w) (sym c.bad_form.ensures) (tells_form h (second_stuck is (byte c.args.self.now) (λ x. let r = c.next.ensures.value in omega arith) (λ x. let r = c.next.ensures.value in omega arith) (λ x. let r = c.next.ensures.value in omega arith)));
     }
 
 -- a form behind `(st`
-pub star-returns-in-err-expect : goal.star-returns-in-err-expect
-star-returns-in-err-expect t c =
-    let p = err_from_is_err_and c.from-residual.result c.from-residual.ensures.1 in
+pub star-returns-in_err-expect : goal.star-returns-in_err-expect
+star-returns-in_err-expect t c =
+    let p = err_from_is_err_and c.from_residual.result c.from_residual.ensures.1 in
     record {
       text = search rules;
       on = search rules;
-      reads = λ count w d is ts h m. rw (p.1, p.2) (c.in-err-expect.ensures.reads count w d _ _ _ _ ts _ c.args.levels c.args.levels h refl refl);
+      reads = λ count w d is ts h m. rw (p.1, p.2) (c.in_err-expect.ensures.reads count w d _ _ _ _ ts _ c.args.levels c.args.levels h refl refl);
     }
 
-pub star-returns-in-err-expect-2 : goal.star-returns-in-err-expect-2
-star-returns-in-err-expect-2 t c =
-    let p = err_from_is_err_and c.from-residual-in-err-expect-2.result c.from-residual-in-err-expect-2.ensures.1 in
+pub star-returns-in_err-expect-2 : goal.star-returns-in_err-expect-2
+star-returns-in_err-expect-2 t c =
+    let p = err_from_is_err_and c.from_residual-in_err-expect-2.result c.from_residual-in_err-expect-2.ensures.1 in
     record {
       text = search rules;
       on = search rules;
-      reads = λ count w d is ts h m. let s2 = c.in-ok-expect.ensures.reads count w d _ _ _ _ ts _ c.args.levels c.args.levels h refl refl in rw (p.1, p.2) (c.in-err-expect-2.ensures.reads count w d _ _ _ _ ts _ c.args.levels c.args.levels s2 refl refl);
+      reads = λ count w d is ts h m. let s2 = c.in_ok-expect.ensures.reads count w d _ _ _ _ ts _ c.args.levels c.args.levels h refl refl in rw (p.1, p.2) (c.in_err-expect-2.ensures.reads count w d _ _ _ _ ts _ c.args.levels c.args.levels s2 refl refl);
     }
 
-pub star-returns-in-err-expect-3 : goal.star-returns-in-err-expect-3
-star-returns-in-err-expect-3 t c =
-    let p = err_from_is_err_and c.from-residual-in-err-expect-3.result c.from-residual-in-err-expect-3.ensures.1 in
+pub star-returns-in_err-expect-3 : goal.star-returns-in_err-expect-3
+star-returns-in_err-expect-3 t c =
+    let p = err_from_is_err_and c.from_residual-in_err-expect-3.result c.from_residual-in_err-expect-3.ensures.1 in
     record {
       text = search rules;
       on = search rules;
-      reads = λ count w d is ts h m. let s2 = c.in-ok-expect.ensures.reads count w d _ _ _ _ ts _ c.args.levels c.args.levels h refl refl in let s3 = c.in-ok-expect-2.ensures.reads count w d _ _ _ _ ts _ c.args.levels c.args.levels s2 refl refl in rw (p.1, p.2) (c.in-err-expect-3.ensures.reads count w d _ _ _ _ ts _ c.args.levels c.args.levels s3 refl refl);
+      reads = λ count w d is ts h m. let s2 = c.in_ok-expect.ensures.reads count w d _ _ _ _ ts _ c.args.levels c.args.levels h refl refl in let s3 = c.in_ok-expect-2.ensures.reads count w d _ _ _ _ ts _ c.args.levels c.args.levels s2 refl refl in rw (p.1, p.2) (c.in_err-expect-3.ensures.reads count w d _ _ _ _ ts _ c.args.levels c.args.levels s3 refl refl);
     }
 
-pub star-returns-in-err-part : goal.star-returns-in-err-part
-star-returns-in-err-part t c =
-    let p = err_from_is_err_and c.from-residual-in-err-part.result c.from-residual-in-err-part.ensures.1 in
+pub star-returns-in_err-part : goal.star-returns-in_err-part
+star-returns-in_err-part t c =
+    let p = err_from_is_err_and c.from_residual-in_err-part.result c.from_residual-in_err-part.ensures.1 in
     record {
       text = search rules;
       on = search rules;
-      reads = λ count w d is ts h m. let s2 = c.in-ok-expect.ensures.reads count w d _ _ _ _ ts _ c.args.levels c.args.levels h refl refl in let s3 = c.in-ok-expect-2.ensures.reads count w d _ _ _ _ ts _ c.args.levels c.args.levels s2 refl refl in let s4 = c.in-ok-expect-3.ensures.reads count w d _ _ _ _ ts _ c.args.levels c.args.levels s3 refl refl in
-          rw (p.1, p.2) (c.in-err-part.ensures.reads count w d (rest 41 [] closing ∷ is) _ s4 m);
+      reads = λ count w d is ts h m. let s2 = c.in_ok-expect.ensures.reads count w d _ _ _ _ ts _ c.args.levels c.args.levels h refl refl in let s3 = c.in_ok-expect-2.ensures.reads count w d _ _ _ _ ts _ c.args.levels c.args.levels s2 refl refl in let s4 = c.in_ok-expect-3.ensures.reads count w d _ _ _ _ ts _ c.args.levels c.args.levels s3 refl refl in
+          rw (p.1, p.2) (c.in_err-part.ensures.reads count w d (rest 41 [] closing ∷ is) _ s4 m);
     }
 
-pub star-returns-in-err-expect-4 : goal.star-returns-in-err-expect-4
-star-returns-in-err-expect-4 t c =
-    let p = err_from_is_err_and c.from-residual-in-err-expect-4.result c.from-residual-in-err-expect-4.ensures.1 in
+pub star-returns-in_err-expect-4 : goal.star-returns-in_err-expect-4
+star-returns-in_err-expect-4 t c =
+    let p = err_from_is_err_and c.from_residual-in_err-expect-4.result c.from_residual-in_err-expect-4.ensures.1 in
     record {
       text = search rules;
       on = search rules;
-      reads = λ count w d is ts h m. let s2 = c.in-ok-expect.ensures.reads count w d _ _ _ _ ts _ c.args.levels c.args.levels h refl refl in let s3 = c.in-ok-expect-2.ensures.reads count w d _ _ _ _ ts _ c.args.levels c.args.levels s2 refl refl in let s4 = c.in-ok-expect-3.ensures.reads count w d _ _ _ _ ts _ c.args.levels c.args.levels s3 refl refl in
-          let r = c.in-ok-part.ensures.reads count w d (rest 41 [] closing ∷ is) _ s4 m in
-          rw (p.1, p.2) (c.in-err-expect-4.ensures.reads count w r.after _ _ _ _ _ _ c.args.levels (c.args.levels + 1) r.stands refl (omega arith));
+      reads = λ count w d is ts h m. let s2 = c.in_ok-expect.ensures.reads count w d _ _ _ _ ts _ c.args.levels c.args.levels h refl refl in let s3 = c.in_ok-expect-2.ensures.reads count w d _ _ _ _ ts _ c.args.levels c.args.levels s2 refl refl in let s4 = c.in_ok-expect-3.ensures.reads count w d _ _ _ _ ts _ c.args.levels c.args.levels s3 refl refl in
+          let r = c.in_ok-part.ensures.reads count w d (rest 41 [] closing ∷ is) _ s4 m in
+          rw (p.1, p.2) (c.in_err-expect-4.ensures.reads count w r.after _ _ _ _ _ _ c.args.levels (c.args.levels + 1) r.stands refl (omega arith));
     }
 
 pub star-returns : goal.star-returns
@@ -268,7 +268,7 @@ star-returns t c =
     record {
       text = search rules;
       on = search rules;
-      reads = λ count w d is ts h m. let s2 = c.in-ok-expect.ensures.reads count w d _ _ _ _ ts _ c.args.levels c.args.levels h refl refl in let s3 = c.in-ok-expect-2.ensures.reads count w d _ _ _ _ ts _ c.args.levels c.args.levels s2 refl refl in let s4 = c.in-ok-expect-3.ensures.reads count w d _ _ _ _ ts _ c.args.levels c.args.levels s3 refl refl in
-          let r = c.in-ok-part.ensures.reads count w d (rest 41 [] closing ∷ is) _ s4 m in
-          star_read _ r (c.in-ok-expect-4.ensures.reads count w r.after _ _ _ _ _ _ c.args.levels (c.args.levels + 1) r.stands refl (omega arith)) (record { text_is = refl; counts = refl; place = refl }) c.starred.ensures.count c.starred.ensures.adds;
+      reads = λ count w d is ts h m. let s2 = c.in_ok-expect.ensures.reads count w d _ _ _ _ ts _ c.args.levels c.args.levels h refl refl in let s3 = c.in_ok-expect-2.ensures.reads count w d _ _ _ _ ts _ c.args.levels c.args.levels s2 refl refl in let s4 = c.in_ok-expect-3.ensures.reads count w d _ _ _ _ ts _ c.args.levels c.args.levels s3 refl refl in
+          let r = c.in_ok-part.ensures.reads count w d (rest 41 [] closing ∷ is) _ s4 m in
+          star_read _ r (c.in_ok-expect-4.ensures.reads count w r.after _ _ _ _ _ _ c.args.levels (c.args.levels + 1) r.stands refl (omega arith)) (record { text_is = refl; counts = refl; place = refl }) c.starred.ensures.count c.starred.ensures.adds;
     }

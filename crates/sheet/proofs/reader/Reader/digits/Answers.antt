@@ -15,14 +15,14 @@ next_digit {count} {left} {t} {d} {a} {b} {f} {s} {is} {ts} k v n l e h p g =
     subst (λ x. Stands count t d b (digits f s (4 - (k + 1)) (v * 10 + x) ∷ is) ts left) (sym e)
     (digit_more (4 - (k + 1)) v (subst (λ r. Stands count t d a (digits f s r v ∷ is) ts left) room h) p g)
 
-pub returns-in-default : goal.returns-in-default
-returns-in-default c =
-    let w = c.in-default.ensures.value in
+pub returns-in_default : goal.returns-in_default
+returns-in_default c =
+    let w = c.in_default.ensures.value in
     record {
       text = search rules;
       on = search rules;
       reads = λ count t d f s is ts left h.
-          subst (Tells count t) (sym c.bad-form.ensures)
+          subst (Tells count t) (sym c.bad_form.ensures)
           (rw w.1 (none_first h w.0));
     }
 

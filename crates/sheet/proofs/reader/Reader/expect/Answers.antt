@@ -11,7 +11,7 @@ returns-then-next-c c = record {
   text = search rules;
   on = search rules;
   reads = λ count t d bs word is js ts us left left' h th lv.
-      subst (Tells count t) (sym c.bad-form.ensures)
+      subst (Tells count t) (sym c.bad_form.ensures)
       (tells_form h (rest_stuck is c.args.c _ bs (fixed word) (λ e. c.if-next-c.true (c.next.ensures.value ∙ sym e))));
 }
 
