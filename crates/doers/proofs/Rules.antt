@@ -1,9 +1,9 @@
 -- The rules of the slip and the tape, case by case.
-use Rattle.std.proofs.Common.{◌≡◌, ℕ, zero, suc, ◌+◌, ◌-◌, ◌*◌, ◌<◌, ◌≤◌, Bool, true, false, cond, eqb, ltb, leb, ◌⊎◌, List, [], ◌∷◌, ◌++◌, length, get_or, take, set, Some, None, Option, sym, refl, ap, ◌∙◌, subst, inl, inr, arith}
+use Rattle.std.proofs.Common.{◌≡◌, ℕ, ◌+◌, ◌-◌, ◌*◌, ◌<◌, ◌≤◌, Bool, true, false, cond, ltb, leb, List, length, get_or, take, set, Some, None, sym, refl, ap, ◌∙◌, subst, arith}
 use Rattle.std.proofs.lemmas.Bool.Decides.{nat_tests}
 use Rattle.std.proofs.lemmas.List.{take_more_set, length-take-le, length-set}
 use Rattle.meaning.proofs.DoerRules.{written_or_kept}
-use Rattle.meaning.specs.Doers.{Does, took, left, slip_rule, Tape, tape_rule}
+use Rattle.meaning.specs.Doers.{Does, took, left, slip_rule, tape_rule}
 
 -- register r becomes n where n fits it, and the code is turned away where it does not
 pub put_does : (rs after : List ℕ) (code mark r n : ℕ) (t : Bool) → slip_rule rs code mark ≡ cond (leb n 999999999999) (Some (set rs r n)) None

@@ -1,11 +1,11 @@
 -- What drafts and sets hold of a line. Assumes nothing.
-use Rattle.std.specs.Prelude.{◌≡◌, ℕ, ◌<◌, Bool, true, false, Option, MatchOption}
+use Rattle.std.specs.Prelude.{◌≡◌, ℕ, ◌<◌, Bool, true, Option, MatchOption}
 use Rattle.positions.specs.declared.draft.Draft.{Draft}
 use Rattle.positions.specs.declared.sets.Sets.{Sets}
 use Rattle.positions.specs.Masks.{ExpressionSets, LineSets}
 use Rattle.meaning.specs.Laws.{OneCode}
 use Rattle.meaning.specs.Words.{Line}
-use Rattle.meaning.specs.Positions.{has, FitsAt, symbol_at, Meet, FirstClash}
+use Rattle.meaning.specs.Positions.{has, FitsAt, Meet, FirstClash}
 
 -- the draft is that of the line's whole expression
 abbrev pub Drafted : Line → Draft → Bool → ℕ → ℕ → Type 0

@@ -1,5 +1,5 @@
-use Rattle.std.proofs.Common.{◌≡◌, ℕ, ◌≤◌, false, refl, ap, ◌∙◌, arith}
-use Rattle.meaning.specs.Doers.{Does, slip_rule, took, left}
+use Rattle.std.proofs.Common.{ap, ◌∙◌, arith}
+use Rattle.meaning.specs.Doers.{slip_rule, took, left}
 use Rattle.doers.proofs.Rules.{put_does, rule_clear, rule_digit, rule_count, rule_none, rule_no_digit, rule_unknown}
 use Rattle.doers.proofs.slip.SlipDoer.give.Goals as goal
 

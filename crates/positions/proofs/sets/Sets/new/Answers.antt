@@ -7,7 +7,7 @@ use Rattle.positions.proofs.sets.Sets.new.Goals as goal
 use Rattle.positions.proofs.sets.Sets.new.Goals.{then-nullable, else-nullable}
 
 pub invariant_of-result : goal.invariant_of-result
-invariant_of-result c = record {few = c.args.draft.few; masks = ∣ c.class_masks.ensures ∣₁}
+invariant_of-result c = record { few = c.args.draft.few; masks = ∣ c.class_masks.ensures ∣₁ }
 
 pub returns : goal.returns
 returns c l d =
