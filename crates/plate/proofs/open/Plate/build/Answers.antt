@@ -96,7 +96,7 @@ invariant_of-self-2 g c =
     c.fill_sets.ensures.sets c.fill_sets.ensures.long (c.fill_sets.ensures.desk ∙ r.desk) c.fill_accepts.ensures.lines c.fill_accepts.ensures.accepts in
     let k = kept c.args.self.now.desk c.fill_accepts.new.self c.fill_moves.new.numbering.met c.args.self.now.moves.now c.args.self.now.sets.now
     c.fill_sets.new.self.moves.now c.fill_sets.new.self.sets.now done c.args.self.now.few c.args.self.now.counted c.args.self.now.cells room in
-    (k.0, (k.1, (k.2, ((λ _. k.3), ((λ _. k.4), tt)))))
+    record { few = k.0; counted = k.1; cells = k.2; masks = λ _. k.3; built = λ _. k.4 }
 
 pub returns : goal.returns
 returns g c =

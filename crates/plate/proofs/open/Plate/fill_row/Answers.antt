@@ -111,16 +111,11 @@ bounds-self-s c =
 -- the plate is not built
 pub invariant_of-self : goal.invariant_of-self
 invariant_of-self c =
-    let same = length-set c.loop-c.self.moves.now (c.args.s * c.args.self.now.desk.count + c.loop-c.c) (c.in-Some.t + 1) in (
-      c.loop-c.self.few,
-      (
-        c.loop-c.self.counted,
-        (
-          omega (arith, c.loop-c.self.cells),
-          (
-            c.loop-c.self.masks,
-            ((λ t. absurd (both_ways c.loop-c.self.desk.built (ap (λ d. d.built) c.loop-c.invariant.4 ∙ c.requires.unbuilt) t)), tt),
-          ),
-        ),
-      ),
-    )
+    let same = length-set c.loop-c.self.moves.now (c.args.s * c.args.self.now.desk.count + c.loop-c.c) (c.in-Some.t + 1) in
+    record {
+      few = c.loop-c.self.few;
+      counted = c.loop-c.self.counted;
+      cells = omega (arith, c.loop-c.self.cells);
+      masks = c.loop-c.self.masks;
+      built = λ t. absurd (both_ways c.loop-c.self.desk.built (ap (λ d. d.built) c.loop-c.invariant.4 ∙ c.requires.unbuilt) t);
+    }

@@ -35,16 +35,10 @@ returns c = record {
 
 -- the plate is not built
 pub invariant_of-self : goal.invariant_of-self
-invariant_of-self c = (
-  c.loop-i.self.few,
-  (
-    c.loop-i.self.counted,
-    (
-      c.loop-i.self.cells,
-      (
-        (λ h. subst (λ n. 512 ≤ n) (sym (length-set c.loop-i.self.sets.now c.loop-i.i _)) (c.loop-i.self.masks h)),
-        ((λ t. absurd (both_ways c.loop-i.self.desk.built (ap (λ d. d.built) c.loop-i.invariant.2 ∙ c.requires.unbuilt) t)), tt),
-      ),
-    ),
-  ),
-)
+invariant_of-self c = record {
+  few = c.loop-i.self.few;
+  counted = c.loop-i.self.counted;
+  cells = c.loop-i.self.cells;
+  masks = λ h. subst (λ n. 512 ≤ n) (sym (length-set c.loop-i.self.sets.now c.loop-i.i _)) (c.loop-i.self.masks h);
+  built = λ t. absurd (both_ways c.loop-i.self.desk.built (ap (λ d. d.built) c.loop-i.invariant.2 ∙ c.requires.unbuilt) t);
+}

@@ -11,4 +11,10 @@ invariant_of-result-2 g c =
     let below : c.new-2.result.count ≤ 256 = omega arith in
     let cells : 64 * c.new-2.result.count ≤ length c.clear.new.cells = omega arith in
     let masks : 512 ≤ length c.clear-2.new.cells = omega arith in
-    (few, (below, (cells, ((λ _. masks), ((λ t. absurd (both_ways c.new-2.result.built c.new-2.ensures.built t)), tt)))))
+    record {
+      few = few;
+      counted = below;
+      cells = cells;
+      masks = λ _. masks;
+      built = λ t. absurd (both_ways c.new-2.result.built c.new-2.ensures.built t);
+    }

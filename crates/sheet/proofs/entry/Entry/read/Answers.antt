@@ -23,10 +23,12 @@ returns-in_err-parsed g c =
 pub invariant_of-result : goal.invariant_of-result
 invariant_of-result g c =
     let r = c.in_ok-parsed.ensures in
-    let s = c.new-sets.ensures r.line r.drafted in (
-      not_empty c.is_empty.result _ c.is_empty.ensures c.if-is_empty.false,
-      (c.if-text-gt-MOST_BYTES.false, (∣ (r.line, records c.classes.result c.args.text.now _ c.new-sets.result r c.copied.ensures s (c.in-None.ensures r.line s)) ∣₁, tt)),
-    )
+    let s = c.new-sets.ensures r.line r.drafted in
+    record {
+      some = not_empty c.is_empty.result _ c.is_empty.ensures c.if-is_empty.false;
+      short = c.if-text-gt-MOST_BYTES.false;
+      is = ∣ (r.line, records c.classes.result c.args.text.now _ c.new-sets.result r c.copied.ensures s (c.in-None.ensures r.line s)) ∣₁;
+    }
 
 pub returns-in-Some : goal.returns-in-Some
 returns-in-Some g c =

@@ -39,43 +39,43 @@ form-returns-else-levels-eq0 t c =
     }
 
 -- a form behind its bracket
-pub head-returns-in_err-expect : goal.head-returns-in_err-expect
-head-returns-in_err-expect t c =
+pub head-returns-in_err-expect-in-a : goal.head-returns-in_err-expect-in-a
+head-returns-in_err-expect-in-a t c =
     let e : byte c.args.self.now ≡ 97 = sym c.next.ensures.value ∙ c.in-a.is in
     let p = err_from_is_err_and c.from_residual.result c.from_residual.ensures.1 in
     record {
       text = search rules;
       on = search rules;
-      reads = λ count w d is ts h m. let s1 = turn 97 (rest 108 (ascii "t ") (fixed (ascii "(alt ")) ∷ form ∷ listing ∷ is) [] c.args.levels h e (omega arith) c.pass.ensures.one refl refl tt in rw (p.1, p.2) (c.in_err-expect.ensures.reads count w d _ _ _ _ ts _ c.args.levels c.args.levels s1 refl refl);
+      reads = λ count w d is ts h m. let s1 = turn 97 (rest 108 (ascii "t ") (fixed (ascii "(alt ")) ∷ form ∷ listing ∷ is) [] c.args.levels h e (omega arith) c.pass.ensures.one refl refl tt in rw (p.1, p.2) (c.in_err-expect-in-a.ensures.reads count w d _ _ _ _ ts _ c.args.levels c.args.levels s1 refl refl);
     }
 
-pub head-returns-in_err-expect-2 : goal.head-returns-in_err-expect-2
-head-returns-in_err-expect-2 t c =
+pub head-returns-in_err-expect-in-a-2 : goal.head-returns-in_err-expect-in-a-2
+head-returns-in_err-expect-in-a-2 t c =
     let e : byte c.args.self.now ≡ 97 = sym c.next.ensures.value ∙ c.in-a.is in
-    let p = err_from_is_err_and c.from_residual-in_err-expect-2.result c.from_residual-in_err-expect-2.ensures.1 in
+    let p = err_from_is_err_and c.from_residual-in_err-expect-in-a-2.result c.from_residual-in_err-expect-in-a-2.ensures.1 in
     record {
       text = search rules;
       on = search rules;
-      reads = λ count w d is ts h m. let s1 = turn 97 (rest 108 (ascii "t ") (fixed (ascii "(alt ")) ∷ form ∷ listing ∷ is) [] c.args.levels h e (omega arith) c.pass.ensures.one refl refl tt in let s2 = c.in_ok-expect.ensures.reads count w d _ _ _ _ ts _ c.args.levels c.args.levels s1 refl refl in rw (p.1, p.2) (c.in_err-expect-2.ensures.reads count w d _ _ _ _ ts _ c.args.levels c.args.levels s2 refl refl);
+      reads = λ count w d is ts h m. let s1 = turn 97 (rest 108 (ascii "t ") (fixed (ascii "(alt ")) ∷ form ∷ listing ∷ is) [] c.args.levels h e (omega arith) c.pass.ensures.one refl refl tt in let s2 = c.in_ok-expect-in-a.ensures.reads count w d _ _ _ _ ts _ c.args.levels c.args.levels s1 refl refl in rw (p.1, p.2) (c.in_err-expect-in-a-2.ensures.reads count w d _ _ _ _ ts _ c.args.levels c.args.levels s2 refl refl);
     }
 
-pub head-returns-in_err-expect-3 : goal.head-returns-in_err-expect-3
-head-returns-in_err-expect-3 t c =
+pub head-returns-in_err-expect-in-a-3 : goal.head-returns-in_err-expect-in-a-3
+head-returns-in_err-expect-in-a-3 t c =
     let e : byte c.args.self.now ≡ 97 = sym c.next.ensures.value ∙ c.in-a.is in
-    let p = err_from_is_err_and c.from_residual-in_err-expect-3.result c.from_residual-in_err-expect-3.ensures.1 in
+    let p = err_from_is_err_and c.from_residual-in_err-expect-in-a-3.result c.from_residual-in_err-expect-in-a-3.ensures.1 in
     record {
       text = search rules;
       on = search rules;
-      reads = λ count w d is ts h m. let s1 = turn 97 (rest 108 (ascii "t ") (fixed (ascii "(alt ")) ∷ form ∷ listing ∷ is) [] c.args.levels h e (omega arith) c.pass.ensures.one refl refl tt in let s2 = c.in_ok-expect.ensures.reads count w d _ _ _ _ ts _ c.args.levels c.args.levels s1 refl refl in let s3 = c.in_ok-expect-2.ensures.reads count w d _ _ _ _ ts _ c.args.levels c.args.levels s2 refl refl in rw (p.1, p.2) (c.in_err-expect-3.ensures.reads count w d _ _ _ _ ts _ c.args.levels c.args.levels s3 refl refl);
+      reads = λ count w d is ts h m. let s1 = turn 97 (rest 108 (ascii "t ") (fixed (ascii "(alt ")) ∷ form ∷ listing ∷ is) [] c.args.levels h e (omega arith) c.pass.ensures.one refl refl tt in let s2 = c.in_ok-expect-in-a.ensures.reads count w d _ _ _ _ ts _ c.args.levels c.args.levels s1 refl refl in let s3 = c.in_ok-expect-in-a-2.ensures.reads count w d _ _ _ _ ts _ c.args.levels c.args.levels s2 refl refl in rw (p.1, p.2) (c.in_err-expect-in-a-3.ensures.reads count w d _ _ _ _ ts _ c.args.levels c.args.levels s3 refl refl);
     }
 
-pub head-returns-in_ok-expect-3 : goal.head-returns-in_ok-expect-3
-head-returns-in_ok-expect-3 t c =
+pub head-returns-in_ok-expect-in-a-3 : goal.head-returns-in_ok-expect-in-a-3
+head-returns-in_ok-expect-in-a-3 t c =
     let e : byte c.args.self.now ≡ 97 = sym c.next.ensures.value ∙ c.in-a.is in
     record {
       text = search rules;
       on = search rules;
-      reads = λ count w d is ts h m. let s1 = turn 97 (rest 108 (ascii "t ") (fixed (ascii "(alt ")) ∷ form ∷ listing ∷ is) [] c.args.levels h e (omega arith) c.pass.ensures.one refl refl tt in let s2 = c.in_ok-expect.ensures.reads count w d _ _ _ _ ts _ c.args.levels c.args.levels s1 refl refl in let s3 = c.in_ok-expect-2.ensures.reads count w d _ _ _ _ ts _ c.args.levels c.args.levels s2 refl refl in let s4 = c.in_ok-expect-3.ensures.reads count w d _ _ _ _ ts _ c.args.levels c.args.levels s3 refl refl in
+      reads = λ count w d is ts h m. let s1 = turn 97 (rest 108 (ascii "t ") (fixed (ascii "(alt ")) ∷ form ∷ listing ∷ is) [] c.args.levels h e (omega arith) c.pass.ensures.one refl refl tt in let s2 = c.in_ok-expect-in-a.ensures.reads count w d _ _ _ _ ts _ c.args.levels c.args.levels s1 refl refl in let s3 = c.in_ok-expect-in-a-2.ensures.reads count w d _ _ _ _ ts _ c.args.levels c.args.levels s2 refl refl in let s4 = c.in_ok-expect-in-a-3.ensures.reads count w d _ _ _ _ ts _ c.args.levels c.args.levels s3 refl refl in
           MatchResult-weaker c.list.result (c.list.ensures.reads count w d is _ s4 m) (λ part r. list_read Alt r) (λ f r. r);
     }
 
@@ -115,27 +115,27 @@ list-returns-in_err-one t c =
       reads = λ count w d is ts h m. rw (p.1, p.2) (c.in_err-one.ensures.reads count w d (listing ∷ is) ts h m);
     }
 
-pub list-returns-in_err-rest : goal.list-returns-in_err-rest
-list-returns-in_err-rest t c =
+pub list-returns-in_err-rest-in-32 : goal.list-returns-in_err-rest-in-32
+list-returns-in_err-rest-in-32 t c =
     let e : byte c.form.new.self ≡ 32 = sym c.next.ensures.value ∙ c.in-32.is in
-    let p = err_from_is_err_and c.from_residual-in_err-rest.result c.from_residual-in_err-rest.ensures.1 in
+    let p = err_from_is_err_and c.from_residual-in_err-rest-in-32.result c.from_residual-in_err-rest-in-32.ensures.1 in
     record {
       text = search rules;
       on = search rules;
       reads = λ count w d is ts h m. let r = c.in_ok-one.ensures.reads count w d (listing ∷ is) ts h m in
           let s = turn 32 (form ∷ listing ∷ is) (fixed (ascii " ") ∷ []) c.args.levels r.stands e (omega arith) c.pass.ensures.one refl refl tt in
-          rw (p.1, p.2) (c.in_err-rest.ensures.reads count w r.after is _ s r.heads_are);
+          rw (p.1, p.2) (c.in_err-rest-in-32.ensures.reads count w r.after is _ s r.heads_are);
     }
 
-pub list-returns-in_ok-rest : goal.list-returns-in_ok-rest
-list-returns-in_ok-rest t c =
+pub list-returns-in_ok-rest-in-32 : goal.list-returns-in_ok-rest-in-32
+list-returns-in_ok-rest-in-32 t c =
     let e : byte c.form.new.self ≡ 32 = sym c.next.ensures.value ∙ c.in-32.is in
     record {
       text = search rules;
       on = search rules;
       reads = λ count w d is ts h m. let r = c.in_ok-one.ensures.reads count w d (listing ∷ is) ts h m in
           let s = turn 32 (form ∷ listing ∷ is) (fixed (ascii " ") ∷ []) c.args.levels r.stands e (omega arith) c.pass.ensures.one refl refl tt in
-          more_read c.args.join _ r (c.in_ok-rest.ensures.reads count w r.after is _ s r.heads_are) (record { text_is = refl; counts = refl; place = refl }) c.joined.ensures.count c.joined.ensures.adds;
+          more_read c.args.join _ r (c.in_ok-rest-in-32.ensures.reads count w r.after is _ s r.heads_are) (record { text_is = refl; counts = refl; place = refl }) c.joined.ensures.count c.joined.ensures.adds;
     }
 
 pub list-returns-in-41 : goal.list-returns-in-41
@@ -158,24 +158,24 @@ list-returns-in_default t c =
     }
 
 -- a form behind `(s`
-pub second-returns-in_err-expect : goal.second-returns-in_err-expect
-second-returns-in_err-expect t c =
+pub second-returns-in_err-expect-in-e : goal.second-returns-in_err-expect-in-e
+second-returns-in_err-expect-in-e t c =
     let e : byte c.args.self.now ≡ 101 = sym c.next.ensures.value ∙ c.in-e.is in
     let p = err_from_is_err_and c.from_residual.result c.from_residual.ensures.1 in
     record {
       text = search rules;
       on = search rules;
-      reads = λ count w d is ts h m. let s1 = turn 101 (rest 113 (ascii " ") (fixed (ascii "(seq ")) ∷ form ∷ listing ∷ is) [] c.args.levels h e (omega arith) c.pass-in-e.ensures.one refl refl tt in rw (p.1, p.2) (c.in_err-expect.ensures.reads count w d _ _ _ _ ts _ c.args.levels c.args.levels s1 refl refl);
+      reads = λ count w d is ts h m. let s1 = turn 101 (rest 113 (ascii " ") (fixed (ascii "(seq ")) ∷ form ∷ listing ∷ is) [] c.args.levels h e (omega arith) c.pass-in-e.ensures.one refl refl tt in rw (p.1, p.2) (c.in_err-expect-in-e.ensures.reads count w d _ _ _ _ ts _ c.args.levels c.args.levels s1 refl refl);
     }
 
-pub second-returns-in_err-expect-2 : goal.second-returns-in_err-expect-2
-second-returns-in_err-expect-2 t c =
+pub second-returns-in_err-expect-in-e-2 : goal.second-returns-in_err-expect-in-e-2
+second-returns-in_err-expect-in-e-2 t c =
     let e : byte c.args.self.now ≡ 101 = sym c.next.ensures.value ∙ c.in-e.is in
-    let p = err_from_is_err_and c.from_residual-in_err-expect-2.result c.from_residual-in_err-expect-2.ensures.1 in
+    let p = err_from_is_err_and c.from_residual-in_err-expect-in-e-2.result c.from_residual-in_err-expect-in-e-2.ensures.1 in
     record {
       text = search rules;
       on = search rules;
-      reads = λ count w d is ts h m. let s1 = turn 101 (rest 113 (ascii " ") (fixed (ascii "(seq ")) ∷ form ∷ listing ∷ is) [] c.args.levels h e (omega arith) c.pass-in-e.ensures.one refl refl tt in let s2 = c.in_ok-expect.ensures.reads count w d _ _ _ _ ts _ c.args.levels c.args.levels s1 refl refl in rw (p.1, p.2) (c.in_err-expect-2.ensures.reads count w d _ _ _ _ ts _ c.args.levels c.args.levels s2 refl refl);
+      reads = λ count w d is ts h m. let s1 = turn 101 (rest 113 (ascii " ") (fixed (ascii "(seq ")) ∷ form ∷ listing ∷ is) [] c.args.levels h e (omega arith) c.pass-in-e.ensures.one refl refl tt in let s2 = c.in_ok-expect-in-e.ensures.reads count w d _ _ _ _ ts _ c.args.levels c.args.levels s1 refl refl in rw (p.1, p.2) (c.in_err-expect-in-e-2.ensures.reads count w d _ _ _ _ ts _ c.args.levels c.args.levels s2 refl refl);
     }
 
 pub second-returns-in-y : goal.second-returns-in-y
@@ -187,13 +187,13 @@ second-returns-in-y t c =
       reads = λ count w d is ts h m. c.symbol.ensures.reads c.args.levels count w d is ts (turn 121 _ [] c.args.levels h e (omega arith) c.pass.ensures.one refl refl tt) m;
     }
 
-pub second-returns-in_ok-expect-2 : goal.second-returns-in_ok-expect-2
-second-returns-in_ok-expect-2 t c =
+pub second-returns-in_ok-expect-in-e-2 : goal.second-returns-in_ok-expect-in-e-2
+second-returns-in_ok-expect-in-e-2 t c =
     let e : byte c.args.self.now ≡ 101 = sym c.next.ensures.value ∙ c.in-e.is in
     record {
       text = search rules;
       on = search rules;
-      reads = λ count w d is ts h m. let s1 = turn 101 (rest 113 (ascii " ") (fixed (ascii "(seq ")) ∷ form ∷ listing ∷ is) [] c.args.levels h e (omega arith) c.pass-in-e.ensures.one refl refl tt in let s2 = c.in_ok-expect.ensures.reads count w d _ _ _ _ ts _ c.args.levels c.args.levels s1 refl refl in let s3 = c.in_ok-expect-2.ensures.reads count w d _ _ _ _ ts _ c.args.levels c.args.levels s2 refl refl in
+      reads = λ count w d is ts h m. let s1 = turn 101 (rest 113 (ascii " ") (fixed (ascii "(seq ")) ∷ form ∷ listing ∷ is) [] c.args.levels h e (omega arith) c.pass-in-e.ensures.one refl refl tt in let s2 = c.in_ok-expect-in-e.ensures.reads count w d _ _ _ _ ts _ c.args.levels c.args.levels s1 refl refl in let s3 = c.in_ok-expect-in-e-2.ensures.reads count w d _ _ _ _ ts _ c.args.levels c.args.levels s2 refl refl in
           MatchResult-weaker c.list.result (c.list.ensures.reads count w d is _ s3 m) (λ part r. list_read Seq r) (λ f r. r);
     }
 
