@@ -3,7 +3,7 @@ use Rattle.std.proofs.Common.{◌≡◌, ℕ, ◌+◌, ◌^◌, Bool, true, fals
 use lib.Bits.{bit_or, or_zero_r}
 use Rattle.meaning.specs.declared.Symbol.{Symbol}
 use Rattle.meaning.specs.Words.{Expr, sym as symbol, none, star, seq, alt, Forms, one, more}
-use Rattle.meaning.specs.Positions.{symbols, list_symbols, has, given, nullable, firstpos, lastpos, followpos, seq_first, seq_last, seq_follow, alt_first, alt_last, alt_follow}
+use Rattle.meaning.specs.Positions.{symbols, list_symbols, has, given, firstpos, lastpos, followpos, seq_first, seq_last, seq_follow, alt_first, alt_last, alt_follow}
 use Rattle.meaning.proofs.Masks.{has_or, same_mask}
 use Rattle.positions.specs.declared.draft.Draft.{Draft}
 use Rattle.positions.specs.Masks.{at, Linked}

@@ -39,7 +39,7 @@ loop-c-preserved c =
     let below : c.loop-c.c < 256 = omega (arith, c.args.self.now.counted, c.loop-c-test.true) in
     let leads : (ls : List Line) → Mean (texts_of c.args.self.now.desk) ls → c.step-next.result ≡ step ls c.loop-c.c (get_or (met_of c.loop-c.numbering) c.args.s nowhere)
     = λ ls m. c.step-next.ensures ls (subst (λ d. Mean (texts_of d) ls) (sym c.loop-c.invariant.4) m) below ∙ ap (step ls c.loop-c.c) (sym c.loop-c.invariant.3) in
-    let told = told_apart c.ne.result c.ne.ensures.0 (c.step-next.result ≡ nowhere) (slice_eq-Decides Decides-eqb c.step-next.result nowhere c.ne.ensures.0 c.ne.ensures.1) c.ne.ensures.2 in
+    let told = told_apart c.ne.result _ (c.step-next.result ≡ nowhere) (slice_eq-Decides Decides-eqb c.step-next.result nowhere _ refl) c.ne.ensures in
     elim c.if-ne.branch [
       | then-ne+in-Some w ↦
           let keeps = numbered_keeps (met_of c.loop-c.numbering) c.step-next.result w.in-Some.t (met_of w.number.new.self) w.in-Some.ensures c.args.s c.loop-c.invariant.2 in
@@ -79,7 +79,7 @@ loop-c-preserved c =
 pub returns-in_default : goal.returns-in_default
 returns-in_default c =
     let below : c.loop-c.c < 256 = omega (arith, c.args.self.now.counted, c.loop-c-test.true) in
-    let told = told_apart c.ne.result c.ne.ensures.0 (c.step-next.result ≡ nowhere) (slice_eq-Decides Decides-eqb c.step-next.result nowhere c.ne.ensures.0 c.ne.ensures.1) c.ne.ensures.2 in
+    let told = told_apart c.ne.result _ (c.step-next.result ≡ nowhere) (slice_eq-Decides Decides-eqb c.step-next.result nowhere _ refl) c.ne.ensures in
     record {
       done = λ e. absurd (both_ways false refl e);
       many = λ _ ls m some.
