@@ -1,4 +1,4 @@
-ghost use Rattle.std.specs.Prelude.{◌≡◌, ◌+◌, ◌<◌, ◌≤◌, List, length, take, drop, if◌then◌else◌, Err, MatchResult, ◌≢◌};
+ghost use Rattle.std.specs.Prelude.{◌≡◌, ◌+◌, ◌<◌, ◌≤◌, List, length, take, drop, Err, MatchBool, MatchResult, ◌≢◌};
 ghost use Rattle.meaning.specs.Words.{Line, Word, Of, classes, line_codes};
 ghost use Rattle.meaning.specs.Alphabets.{seen};
 ghost use Rattle.meaning.specs.Positions.{has, first_set, move_all, end_mark};
@@ -49,7 +49,7 @@ pub fn test<A: Alphabet>(
     ensures away { (plate.now.desk.count ≢ A.Alphabet.count) → result ≡ Err Refusal.NotOpen }
     ensures heard { plate.now.desk.count ≡ A.Alphabet.count → (h : List Given) → Tested (account_of plate.now.desk plate.now.moves.now plate.now.sets.now h) line (seen A.Alphabet.classed extent.now) codes.old (test_answer result) codes.new }
     ensures cases { MatchResult result (λ _. Ready A.Alphabet.count plate.now.desk (length extent.now) × (line < plate.now.desk.standing) × (length extent.now + 2 ≤ length codes.old)) (λ f. Untested A.Alphabet.count plate.now.desk (length extent.now) line (length codes.old) f) }
-    ensures codes { MatchResult result (λ w. (if w then (drop (length extent.now + 2) codes.new ≡ drop (length extent.now + 2) codes.old) else (codes.new ≡ codes.old))) (λ _. codes.new ≡ codes.old) }
+    ensures codes { MatchResult result (λ w. MatchBool w (drop (length extent.now + 2) codes.new ≡ drop (length extent.now + 2) codes.old) (codes.new ≡ codes.old)) (λ _. codes.new ≡ codes.old) }
 {
     plate.ready(extent)?;
     let Some(entry) = plate.line(line) else {
