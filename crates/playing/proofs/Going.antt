@@ -2,7 +2,7 @@
 use Rattle.std.proofs.Common.{◌≡◌, ℕ, ◌+◌, ◌<◌, ◌≤◌, List, [], ◌∷◌, ◌++◌, length, take, drop, sym, ap, subst, append_assoc, arith, length-append}
 use Rattle.meaning.specs.Words.{Line}
 use Rattle.meaning.specs.Pieces.{Cut, NothingAt}
-use Rattle.meaning.specs.Doers.{Given, Rule, Leads, stays, Gives}
+use Rattle.meaning.specs.Doers.{Given, Rule, Leads, Gives}
 use Rattle.meaning.specs.Runs.{Plays, at_end, no_piece, broken, whole}
 use Rattle.playing.specs.Performances.{Offered, all, some}
 use Rattle.meaning.proofs.Answered.{play_leads}

@@ -2,9 +2,8 @@
 use Rattle.std.proofs.Common.{◌≡◌, ℕ, zero, suc, ◌≤◌, false, List, [], ◌∷◌, Ok, Err, Result, sym, refl, ap, ◌∙◌, subst, ⊎_elim, append-nil, arith, MatchResult}
 use Rattle.std.proofs.lemmas.Bool.{cases_eq}
 use Rattle.meaning.specs.declared.Piece.{Piece}
-use Rattle.meaning.specs.Words.{Line}
 use Rattle.meaning.specs.Doers.{Given, Rule, Leads}
-use Rattle.meaning.specs.Runs.{Refusal, plain, Answer, answer_no, Account, fresh, open_for, Plays, Listed, Step, reads, refuses_play, plays, Called, away, heard}
+use Rattle.meaning.specs.Runs.{Refusal, plain, Answer, answer_no, Account, fresh, open_for, Listed, Step, reads, refuses_play, plays, Called, away, heard}
 use Rattle.meaning.specs.Asked.{Asked, ask_take, ask_strike, ask_build, ask_read, ask_play, gathered, Reply, no_for, told}
 use Rattle.sheet.specs.declared.refusal.Refusal.{Refusal as Declines}
 use Rattle.sheet.specs.declared.refusal.Refusal.TheVariants.{NotOpen}
