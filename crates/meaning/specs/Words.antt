@@ -1,5 +1,5 @@
 -- What a line of a sheet means: its words, their codes, and when a line clashes. Assumes nothing.
-use Rattle.std.specs.Prelude.{◌≡◌, ℕ, ◌+◌, ◌<◌, ◌≤◌, ◌⊎◌, List, [], ◌∷◌, ◌++◌, map, length, take, slice_index, slice_index_or}
+use Rattle.std.specs.Prelude.{◌≡◌, ℕ, ◌+◌, ◌<◌, ◌≤◌, ◌⊎◌, List, [], ◌∷◌, ◌++◌, map, length, take, slice_index}
 use Rattle.meaning.specs.declared.Symbol.{Symbol}
 
 mutual
@@ -82,4 +82,4 @@ pub record Clash (e : Expr) : Type 0 where
   pub in_left : place < length left
   pub in_right : place < length right
   pub agree : take (place + 1) (classes left) ≡ take (place + 1) (classes right)
-  pub differ : slice_index_or (map (λ p. p.code) left) place 0 ≡ slice_index (map (λ p. p.code) right) place → ⊥
+  pub differ : slice_index (map (λ p. p.code) left) place ≡ slice_index (map (λ p. p.code) right) place → ⊥

@@ -1,6 +1,6 @@
 ghost use Rattle.std.specs.Prelude.{◌≡◌, ◌+◌, ◌<◌};
 ghost use Rattle.meaning.specs.Words.{sym as one_of_lem};
-ghost use Rattle.meaning.specs.Positions.{given as if-given};
+ghost use Rattle.meaning.specs.Positions.{given as if_given};
 ghost use Rattle.sheet.specs.Adding.{Added, AddsStar, AddsMore};
 // The sets of a form, from those of the forms in it.
 use crate::reader::{Join, Part};
@@ -9,7 +9,7 @@ use positions::Draft;
 
 // The set, where `kept` says so, and otherwise none.
 fn given(kept: bool, set: u64) -> u64
-    ensures { result ≡ if-given kept set }
+    ensures { result ≡ if_given kept set }
 {
     if kept { set } else { 0 }
 }
