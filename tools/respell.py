@@ -1,7 +1,9 @@
 #!/usr/bin/env python3
 """Respells this repository's own names of definitions and lemmas: words in snake case, types and facts in upper camel case.
 
-usage: python3 tools/respell.py [ROOT]      rewrites crates/**/*.antt and the clauses and comments of crates/**/*.rt in place
+usage: python3 tools/respell.py [ROOT]      rewrites crates/**/*.antt and crates/**/*.rt in place
+
+It goes over the whole text of a .rt file; none of the names stands in code or in a string of one, so only clauses, ghost items and comments change.
 
 It was run once, right after the toolchain's port.py, on the tree that port.py left. Names that the checker makes (goals, steps, loops) and names of the
 library keep their dashes.
