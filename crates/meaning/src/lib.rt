@@ -8,11 +8,13 @@ ghost use Rattle.meaning.specs.ReadLaws.{ReadingLaw, AdjoinLaw, PieceLaw, PlayLa
 ghost use Rattle.meaning.specs.DoerLaws.{TapeLaw, SlipLaw};
 ghost use Rattle.meaning.specs.RunLaws.{MeaningLaw, RefusalLaw, TextLaw, ShutLaw, RunLaw, AccountLaw, OutcomeLaw, TestLaw, VerdictLaw};
 
+use std::fmt;
+
 // The records that definitions and code share, and the laws between the definitions. Each law stands on
 // the contract of a function that does nothing else: docs/LAWS.md tells them in plain words.
 
 // A symbol of a line: the classes from `low` to `high`, and the action code that goes with each.
-#[derive(Clone, Copy)]
+#[derive(Clone, Copy, PartialEq, Eq, Debug)]
 pub struct Symbol {
     pub low: u16,
     pub high: u16,
@@ -20,11 +22,18 @@ pub struct Symbol {
 }
 
 // A piece of an extent: the number of the line that it is a word of, its place and its length.
-#[derive(Clone, Copy)]
+#[derive(Clone, Copy, PartialEq, Eq, Debug)]
 pub struct Piece {
     pub line: usize,
     pub place: usize,
     pub len: usize,
+}
+
+// Line, place and length, as programs print a piece.
+impl fmt::Display for Piece {
+    fn fmt<W: fmt::Write>(&self, f: &mut fmt::Formatter<W>) -> fmt::Result {
+        write!(f, "{} {} {}", self.line, self.place, self.len)
+    }
 }
 
 // ---- Alphabets

@@ -11,6 +11,7 @@ ghost use Rattle.reading.specs.Answers.{why_number, read_answer, Ready};
 use meaning::Piece;
 use plate::Plate;
 use sheet::{Alphabet, Refusal};
+use std::fmt;
 
 // Why a read or a play ends: at the extent's end, where no piece begins, where one begins and the list is full, or where the doer turned a code away.
 #[derive(Clone, Copy, PartialEq, Eq, Debug)]
@@ -31,6 +32,13 @@ impl Why {
             Why::ListFull => 2,
             Why::TurnedAway => 3,
         }
+    }
+}
+
+// The number, as programs print it.
+impl fmt::Display for Why {
+    fn fmt<W: fmt::Write>(&self, f: &mut fmt::Formatter<W>) -> fmt::Result {
+        write!(f, "{}", self.number())
     }
 }
 

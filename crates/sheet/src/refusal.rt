@@ -1,6 +1,8 @@
 ghost use Rattle.std.specs.Prelude.{◌≡◌};
 ghost use Rattle.sheet.specs.Refusals.{reported};
 
+use std::fmt;
+
 // Why a call is refused. Each case has a number, a layer and two details; `specs/Refusals.antt` says which.
 #[derive(Clone, Copy, PartialEq, Eq, Debug)]
 pub enum Refusal {
@@ -72,5 +74,13 @@ impl Refusal {
             Refusal::Clash { p, q } => (p, q),
             _ => (0, 0),
         }
+    }
+}
+
+// Number, layer and the two details, as programs print a refusal.
+impl fmt::Display for Refusal {
+    fn fmt<W: fmt::Write>(&self, f: &mut fmt::Formatter<W>) -> fmt::Result {
+        let (one, two) = self.details();
+        write!(f, "{} {} {one} {two}", self.number(), self.layer())
     }
 }
