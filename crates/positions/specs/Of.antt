@@ -1,6 +1,7 @@
 -- What drafts and sets hold of a line. Assumes nothing.
-use Rattle.std.specs.Prelude.{◌≡◌, ℕ, ◌<◌, Bool, true, Option, MatchOption}
+use Rattle.std.specs.Prelude.{◌≡◌, ℕ, ◌<◌, true, Option, MatchOption}
 use Rattle.positions.specs.declared.draft.Draft.{Draft}
+use Rattle.positions.specs.declared.part.Part.{Part}
 use Rattle.positions.specs.declared.sets.Sets.{Sets}
 use Rattle.positions.specs.Masks.{ExpressionSets, LineSets}
 use Rattle.meaning.specs.Laws.{OneCode}
@@ -8,8 +9,8 @@ use Rattle.meaning.specs.Words.{Line}
 use Rattle.meaning.specs.Positions.{has, FitsAt, Meet, FirstClash}
 
 -- the draft is that of the line's whole expression
-abbrev pub Drafted : Line → Draft → Bool → ℕ → ℕ → Type 0
-Drafted l d empty first last = ExpressionSets l d.count d.symbols d.follow empty first last
+abbrev pub Drafted : Line → Draft → Part → Type 0
+Drafted l d part = ExpressionSets l d.count d.symbols d.follow part.nullable part.first part.last
 
 -- the sets are those of the line
 abbrev pub SetsOf : Line → Sets → Type 0

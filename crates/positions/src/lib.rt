@@ -7,6 +7,7 @@ mod limits;
 mod masks;
 mod meeting;
 mod moves;
+mod part;
 mod sets;
 
 pub use draft::Draft;
@@ -14,4 +15,5 @@ pub use limits::{
     LONGEST_EXTENT, MOST_BYTES, MOST_CLASSES, MOST_CODE, MOST_LEVELS, MOST_LINES, MOST_POSITIONS,
     MOST_STATES, MOST_SYMBOLS, NO_MARK,
 };
+pub use part::Part;
 pub use sets::Sets;

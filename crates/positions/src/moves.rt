@@ -7,14 +7,19 @@ use crate::draft::Draft;
 use crate::limits::*;
 use crate::masks::{class_masks, union};
 use crate::meeting::first_clash;
+use crate::part::Part;
 use crate::sets::Sets;
 
 impl Sets {
     // The sets of a line whose expression was read, with the end mark.
-    pub fn new(draft: Draft, nullable: bool, first: u64, last: u64) -> Sets
-        ensures { (l : Line) → Drafted l draft nullable first last → SetsOf l result }
+    pub fn new(mut draft: Draft, part: Part) -> Sets
+        ensures { (l : Line) → Drafted l draft part → SetsOf l result }
     {
-        let mut draft = draft;
+        let Part {
+            nullable,
+            first,
+            last,
+        } = part;
         let count = draft.count;
         let end = 1 << count;
         draft.link(last, end);

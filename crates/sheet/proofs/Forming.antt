@@ -7,7 +7,7 @@ use Rattle.meaning.proofs.Scan.{closing, Item, onto, onto_append}
 use Rattle.positions.specs.declared.draft.Draft.{Draft}
 use Rattle.sheet.specs.declared.reader.Join.{Join}
 use Rattle.sheet.specs.declared.reader.Join.TheVariants.{Seq, Alt}
-use Rattle.sheet.specs.declared.reader.Part.{Part}
+use Rattle.positions.specs.declared.part.Part.{Part}
 use Rattle.sheet.specs.declared.reader.Reader.{Reader}
 use Rattle.sheet.specs.Adding.{Added, joins, AddsStar, AddsMore}
 use Rattle.sheet.specs.Reading.{SamePlace, Stands, ExprRead, ListRead, numbers_onto}

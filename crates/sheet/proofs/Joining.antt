@@ -9,7 +9,7 @@ use Rattle.positions.specs.declared.draft.Draft.{Draft}
 use Rattle.positions.specs.Masks.{at, Linked}
 use Rattle.sheet.specs.declared.reader.Join.{Join}
 use Rattle.sheet.specs.declared.reader.Join.TheVariants.{Seq, Alt}
-use Rattle.sheet.specs.declared.reader.Part.{Part}
+use Rattle.positions.specs.declared.part.Part.{Part}
 use Rattle.sheet.specs.Adding.{Added, joins}
 
 or_or : (a b c : Bool) → ((a || b) || c) ≡ (a || (b || c))

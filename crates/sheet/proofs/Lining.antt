@@ -15,14 +15,14 @@ use Rattle.meaning.proofs.Limits.{onto_onto, limits}
 use Rattle.positions.specs.declared.draft.Draft.{Draft}
 use Rattle.positions.specs.Masks.{at}
 use Rattle.positions.specs.Of.{Drafted}
-use Rattle.sheet.specs.declared.reader.Part.{Part}
+use Rattle.positions.specs.declared.part.Part.{Part}
 use Rattle.sheet.specs.declared.reader.Reader.{Reader}
 use Rattle.sheet.specs.Adding.{Added}
 use Rattle.sheet.specs.Reading.{Stands, ExprRead}
 use Rattle.sheet.specs.Parsing.{LineRead}
 
 -- a whole expression, behind an empty draft
-pub drafted : {e : Expr} {d after : Draft} {part : Part} (m n : ℕ) → Added e d after part → d.count ≡ 0 → d.follow ≡ replicate 64 0 → Drafted (record { open_code = m; close_code = n; expr = e }) after part.nullable part.first part.last
+pub drafted : {e : Expr} {d after : Draft} {part : Part} (m n : ℕ) → Added e d after part → d.count ≡ 0 → d.follow ≡ replicate 64 0 → Drafted (record { open_code = m; close_code = n; expr = e }) after part
 drafted {e} {d} {after} {part} m n a c f = record {
   symbols_are = a.symbols_are ∙ ap (λ k. take k d.symbols ++ symbols e) c;
   follow_is = λ p h.
@@ -63,7 +63,7 @@ line_read {count} {left} {left'} {t} {d} {a} {b} {is} {part} m n r h over c f =
       in_limits = (limits count l means.0).0 (λ k j x. no_wrong count t m n r.expr fine scans k j (subst (λ w. Wrong count w k j) (sym means.1) x));
       opens = refl;
       closes = refl;
-      drafted = subst (λ x. Drafted l x part.nullable part.first part.last) (sym h.draft_is) (drafted m n r.added c f);
+      drafted = subst (λ x. Drafted l x part) (sym h.draft_is) (drafted m n r.added c f);
     }
 
 -- a reader at the start of its text

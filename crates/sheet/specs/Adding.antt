@@ -6,7 +6,7 @@ use Rattle.positions.specs.declared.draft.Draft.{Draft}
 use Rattle.positions.specs.Masks.{at, Position}
 use Rattle.sheet.specs.declared.reader.Join.{Join}
 use Rattle.sheet.specs.declared.reader.Join.TheVariants.{Seq, Alt}
-use Rattle.sheet.specs.declared.reader.Part.{Part}
+use Rattle.positions.specs.declared.part.Part.{Part}
 
 -- `after` is `before` with the expression e behind it, and the part has the sets of e
 pub record Added (e : Expr) (before after : Draft) (part : Part) : Type 0 where

@@ -8,7 +8,7 @@ use Rattle.meaning.proofs.Scan.{start}
 use Rattle.positions.specs.declared.draft.Draft.{Draft}
 use Rattle.positions.specs.Of.{Drafted}
 use Rattle.sheet.specs.declared.reader.Parsed.{Parsed}
-use Rattle.sheet.specs.declared.reader.Part.{Part}
+use Rattle.positions.specs.declared.part.Part.{Part}
 use Rattle.sheet.specs.declared.reader.Reader.{Reader}
 use Rattle.sheet.specs.declared.refusal.Refusal.{Refusal}
 use Rattle.sheet.specs.Reading.{Stands, Tells}
@@ -21,7 +21,7 @@ pub record LineRead (count : ℕ) (t : List ℕ) (opening closing : ℕ) (draft 
   pub in_limits : InLimits count line
   pub opens : opening ≡ line.open_code
   pub closes : closing ≡ line.close_code
-  pub drafted : Drafted line draft part.nullable part.first part.last
+  pub drafted : Drafted line draft part
 
 -- from its start on, with an empty draft, a text is read as a line, or its first fault is told
 abbrev pub ReadsLine : Reader → Reader → Result (ℕ × ℕ × Part) Refusal → Type 0

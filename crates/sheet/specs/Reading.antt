@@ -11,7 +11,7 @@ use Rattle.meaning.specs.TextLaws.{Digit}
 use Rattle.meaning.proofs.Scan.{closing, Stop, blank, stop_byte, stop_token, Item, rest, numeral, digits, form, letter, second, listing, moved, through, behind, scan, onto}
 use Rattle.meaning.proofs.Judge.{Fine}
 use Rattle.sheet.specs.declared.reader.Join.{Join}
-use Rattle.sheet.specs.declared.reader.Part.{Part}
+use Rattle.positions.specs.declared.part.Part.{Part}
 use Rattle.sheet.specs.declared.reader.Reader.{Reader}
 use Rattle.sheet.specs.declared.refusal.Refusal.{Refusal}
 use Rattle.sheet.specs.Adding.{Added, joins}

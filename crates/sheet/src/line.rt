@@ -10,7 +10,7 @@ use crate::alphabet::Alphabet;
 use crate::entry::Entry;
 use crate::parse::parse;
 use crate::refusal::Refusal;
-use positions::{Draft, MOST_BYTES, Sets};
+use positions::{Draft, MOST_BYTES, Part, Sets};
 
 fn copied(text: &[u8]) -> [u8; MOST_BYTES]
     requires { length text.now ≤ 1024 }
@@ -27,12 +27,17 @@ impl Entry {
         ensures { text_of result ≡ ascii "(rule 0 0 (none))" }
     {
         let text = b"(rule 0 0 (none))";
+        let nothing = Part {
+            nullable: true,
+            first: 0,
+            last: 0,
+        };
         Entry {
             text: copied(text),
             len: text.len(),
             opening: 0,
             closing: 0,
-            sets: Sets::new(Draft::new(), true, 0, 0),
+            sets: Sets::new(Draft::new(), nothing),
         }
     }
 
@@ -44,8 +49,7 @@ impl Entry {
             return Err(Refusal::LineSize);
         }
         let parsed = parse(text, A::classes())?;
-        let part = parsed.part;
-        let sets = Sets::new(parsed.draft, part.nullable, part.first, part.last);
+        let sets = Sets::new(parsed.draft, parsed.part);
         match sets.clash() {
             Some((p, q)) => Err(Refusal::Clash { p, q }),
             None => Ok(Entry {

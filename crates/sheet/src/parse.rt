@@ -3,10 +3,10 @@ ghost use Rattle.sheet.specs.Parsing.{ReadsLine, Parses};
 ghost use Rattle.sheet.specs.Reading.{byte, Left, Passed, Expects, DigitsOne, ReadsDigits, ReadsNumber, ReadsRule, ReadsRange, ReadsSymbol, ReadsNone, ReadsForm, ReadsHead, ReadsSecond, ReadsStar, ReadsList};
 // The text layer: reads a line's text byte by byte and works out its position sets on the way.
 use crate::parts::{joined, single, starred};
-use crate::reader::{Join, Parsed, Part, Reader};
+use crate::reader::{Join, Parsed, Reader};
 use crate::refusal::Refusal;
 use meaning::Symbol;
-use positions::{Draft, MOST_CODE, MOST_LEVELS};
+use positions::{Draft, MOST_CODE, MOST_LEVELS, Part};
 
 // Reads a whole text.
 pub(crate) fn parse(text: &[u8], classes: usize) -> Result<Parsed, Refusal>

@@ -3,9 +3,9 @@ ghost use Rattle.meaning.specs.Words.{sym as one_of_lem};
 ghost use Rattle.meaning.specs.Positions.{given as if_given};
 ghost use Rattle.sheet.specs.Adding.{Added, AddsStar, AddsMore};
 // The sets of a form, from those of the forms in it.
-use crate::reader::{Join, Part};
+use crate::reader::Join;
 use meaning::Symbol;
-use positions::Draft;
+use positions::{Draft, Part};
 
 // The set, where `kept` says so, and otherwise none.
 fn given(kept: bool, set: u64) -> u64

@@ -1,14 +1,6 @@
 ghost use Rattle.std.specs.Prelude.{◌≤◌, length};
 // What the text layer keeps while it reads a line.
-use positions::Draft;
-
-// What a form adds to the sets: whether it has the empty word, and the positions that its words begin and end with.
-#[derive(Clone, Copy)]
-pub struct Part {
-    pub nullable: bool,
-    pub first: u64,
-    pub last: u64,
-}
+use positions::{Draft, Part};
 
 // How the forms of a list belong together.
 #[derive(Clone, Copy)]

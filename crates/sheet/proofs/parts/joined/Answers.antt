@@ -1,6 +1,6 @@
 use Rattle.std.proofs.Common.{◌&&◌, ◌||◌, sym, refl, subst}
 use lib.Bits.{bit_or}
-use Rattle.sheet.specs.declared.reader.Part.{Part}
+use Rattle.positions.specs.declared.part.Part.{Part}
 use Rattle.sheet.specs.Adding.{AddsMore}
 use Rattle.sheet.proofs.Joining.{added_seq, added_alt}
 use Rattle.sheet.proofs.parts.joined.Goals as goal
