@@ -31,6 +31,11 @@ pub struct Piece {
 
 // Line, place and length, as programs print a piece.
 impl fmt::Display for Piece {
+    ghost use Rattle.std.specs.Prelude.{Some};
+    ghost use Rattle.meaning.specs.Printed.{piece_text};
+
+    ghost output = { λ p. Some (piece_text p) };
+
     fn fmt<W: fmt::Write>(&self, f: &mut fmt::Formatter<W>) -> fmt::Result {
         write!(f, "{} {} {}", self.line, self.place, self.len)
     }

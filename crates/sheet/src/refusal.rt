@@ -79,6 +79,11 @@ impl Refusal {
 
 // Number, layer and the two details, as programs print a refusal.
 impl fmt::Display for Refusal {
+    ghost use Rattle.std.specs.Prelude.{Some};
+    ghost use Rattle.meaning.specs.Printed.{refusal_text};
+
+    ghost output = { λ f. Some (refusal_text (reported f)) };
+
     fn fmt<W: fmt::Write>(&self, f: &mut fmt::Formatter<W>) -> fmt::Result {
         let (one, two) = self.details();
         write!(f, "{} {} {one} {two}", self.number(), self.layer())
