@@ -1,6 +1,9 @@
-ghost use Rattle.std.specs.Prelude.{◌≡◌, ℕ, ◌<◌, ◌≤◌, List, if◌then◌else◌, Some, None, nat_le, nat_lt, slice_index, slice_set};
+ghost use Rattle.std.specs.Prelude.{All, ◌≡◌, ℕ, ◌<◌, ◌≤◌, ◌+◌, ◌⊎◌, MatchOption, List, if◌then◌else◌, Some, None, nat_le, nat_lt, slice_index, slice_set};
+ghost use Rattle.std.proofs.Props.{props};
+ghost use Rattle.meaning.specs.Bounds.{lowest_digit, highest_digit, most_registers, most_register};
 ghost use Rattle.meaning.specs.Doers.{slip_rule, slip_first};
 
+use crate::action::Action;
 use crate::doer::Doer;
 
 pub const REGISTERS: usize = 8;
@@ -12,10 +15,10 @@ const FIRST_DIGIT: u16 = 48;
 const LAST_DIGIT: u16 = 57;
 
 // An order slip: eight registers of at most twelve digits.
-#[derive(Clone, Copy)]
+#[derive(Clone, Copy, Debug, PartialEq, Eq)]
 pub struct Slip {
     registers: [u64; REGISTERS],
-    ghost small: { (r : ℕ) → r < 8 → slice_index registers r ≤ 999999999999 },
+    ghost small: { All (λ n. n ≤ most_register) registers } by { Prim.hlevel props },
 }
 
 impl Slip {
@@ -29,19 +32,15 @@ impl Slip {
     }
 
     pub fn register(&self, r: usize) -> Option<u64>
-        ensures { result ≡ (if nat_lt r 8 then Some (slice_index self.now.registers r) else None) }
+        ensures { result ≡ (if nat_lt r most_registers then Some (slice_index self.now.registers r) else None) }
     {
-        if r < REGISTERS {
-            Some(self.registers[r])
-        } else {
-            None
-        }
+        self.registers.get(r).copied()
     }
 
     // Sets a register unless the value is too large for it.
     fn put(&mut self, r: usize, value: u64) -> bool
-        requires { r < 8 }
-        ensures taken { result ≡ nat_le value 999999999999 }
+        requires { r < most_registers }
+        ensures taken { result ≡ nat_le value most_register }
         ensures registers { self.new.registers ≡ (if result then slice_set self.old.registers r value else self.old.registers) }
     {
         if value > MOST_REGISTER {
@@ -49,6 +48,16 @@ impl Slip {
         }
         self.registers[r] = value;
         true
+    }
+}
+
+// The digit whose byte the mark is.
+fn digit(mark: u16) -> Option<u64>
+    ensures { MatchOption result (mark < lowest_digit ⊎ highest_digit < mark) (λ digit. (digit < 10) × (mark ≡ lowest_digit + digit)) }
+{
+    match mark {
+        FIRST_DIGIT..=LAST_DIGIT => Some(u64::from(mark - FIRST_DIGIT)),
+        _ => None,
     }
 }
 
@@ -60,23 +69,15 @@ impl Doer for Slip {
     ghost rule = { slip_rule };
 
     fn give(&mut self, code: u16, mark: u16) -> bool {
-        match code {
-            0 => true,
-            16..=23 => self.put(code as usize - 16, 0),
-            32..=39 => {
-                if mark < FIRST_DIGIT || mark > LAST_DIGIT {
-                    return false;
-                }
-                let r = code as usize - 32;
-                let value = self.registers[r] * 10 + (mark - FIRST_DIGIT) as u64;
-                self.put(r, value)
-            }
-            48..=55 => {
-                let r = code as usize - 48;
-                let value = self.registers[r] + 1;
-                self.put(r, value)
-            }
-            _ => false,
+        match Action::try_from(code) {
+            Ok(Action::Keep) => true,
+            Ok(Action::Clear(r)) => self.put(r, 0),
+            Ok(Action::Append(r)) => match digit(mark) {
+                Some(digit) => self.put(r, self.registers[r] * 10 + digit),
+                None => false,
+            },
+            Ok(Action::Count(r)) => self.put(r, self.registers[r] + 1),
+            Err(_) => false,
         }
     }
 }

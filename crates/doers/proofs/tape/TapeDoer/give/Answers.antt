@@ -1,7 +1,7 @@
 use Rattle.std.proofs.Common.{◌+◌, take, refl, arith}
 use Rattle.std.proofs.lemmas.List.{length-take-le, drop-set-lt}
 use Rattle.doers.proofs.Rules.{tape_full, tape_takes}
-use Rattle.doers.proofs.taping.TapeDoer.give.Goals as goal
+use Rattle.doers.proofs.tape.TapeDoer.give.Goals as goal
 
 pub returns-then-self : goal.returns-then-self
 returns-then-self c = record {
