@@ -6,9 +6,10 @@ ghost use Rattle.meaning.specs.Doers.{slip_rule, slip_first};
 use crate::action::Action;
 use crate::doer::Doer;
 
-pub const REGISTERS: usize = 8;
+const REGISTERS: usize = 8;
 
-pub const MOST_REGISTER: u64 = 999_999_999_999;
+const MOST_REGISTER: u64 = 999_999_999_999;
+
 // the marks of the digits 0 and 9
 const FIRST_DIGIT: u16 = 48;
 
@@ -31,6 +32,7 @@ impl Slip {
         }
     }
 
+    // A register, if it is one of the eight.
     pub fn register(&self, r: usize) -> Option<u64>
         ensures { result ≡ (if nat_lt r most_registers then Some (slice_index self.now.registers r) else None) }
     {
@@ -38,6 +40,7 @@ impl Slip {
     }
 
     // Sets a register unless the value is too large for it.
+    // Stays: a bool, since `give` answers one; an Option would only be turned into it at each call.
     fn put(&mut self, r: usize, value: u64) -> bool
         requires { r < most_registers }
         ensures taken { result ≡ nat_le value most_register }

@@ -47,6 +47,7 @@ impl Doer for Tape<'_> {
         ensures behind { drop self.new.held self.new.cells.now ≡ drop self.new.held self.old.cells.now }
         ensures names { self.new.cells.ghost_name ≡ self.old.cells.ghost_name }
     {
+        // Stays: with `get_mut` the proof did not close, since it knows no element of a slice once such a loan is over.
         if self.held >= self.cells.len() {
             return false;
         }
