@@ -1,6 +1,6 @@
 ghost use Rattle.doers.specs.Action.{Decodes};
 
-// The codes of the actions; of those at a register the codes of the first and the last register.
+// The codes of the actions. An action at a register has a code for each register, from the first to the last.
 const KEEP: u16 = 0;
 
 const FIRST_CLEAR: u16 = 16;
@@ -17,7 +17,7 @@ const LAST_COUNT: u16 = 55;
 
 // What a code asks of the slip: to keep its registers, or to clear one, to append the mark's digit to it or to count it up.
 #[derive(Clone, Copy, Debug, PartialEq, Eq)]
-pub enum Action {
+pub(crate) enum Action {
     Keep,
     Clear(usize),
     Append(usize),
@@ -26,7 +26,7 @@ pub enum Action {
 
 // A code that asks for no action.
 #[derive(Clone, Copy, Debug, PartialEq, Eq)]
-pub struct UnknownCode(pub u16);
+pub(crate) struct UnknownCode(pub(crate) u16);
 
 impl TryFrom<u16> for Action {
     type Error = UnknownCode;

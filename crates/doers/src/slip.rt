@@ -32,6 +32,13 @@ impl Slip {
         }
     }
 
+    // The registers, in order.
+    pub fn registers(&self) -> &[u64]
+        ensures { result.now ≡ self.now.registers }
+    {
+        &self.registers
+    }
+
     // A register, if it is one of the eight.
     pub fn register(&self, r: usize) -> Option<u64>
         ensures { result ≡ (if nat_lt r most_registers then Some (slice_index self.now.registers r) else None) }

@@ -5,7 +5,7 @@ use crate::doer::Doer;
 
 // Keeps each code in the next of the caller's cells, and turns one away when they are full.
 // Stays: the cells are lent memory with how many of them are used, since the engine has no heap and so no `Vec`.
-#[derive(Drop)]
+#[derive(Debug, Drop)]
 pub struct Tape<'c> {
     cells: &'c mut [u16],
     held: usize,
