@@ -1,4 +1,4 @@
-ghost use Rattle.std.specs.Prelude.{All, ◌≡◌, ℕ, ◌<◌, ◌≤◌, ◌+◌, ◌⊎◌, MatchOption, List, if◌then◌else◌, Some, None, nat_le, nat_lt, slice_index, slice_set};
+ghost use Rattle.std.specs.Prelude.{◌≡◌, ℕ, ◌+◌, ◌<◌, ◌≤◌, ◌⊎◌, List, All, if◌then◌else◌, MatchOption, Some, None, nat_le, nat_lt, slice_index, slice_set};
 ghost use Rattle.std.proofs.Props.{props};
 ghost use Rattle.meaning.specs.Bounds.{lowest_digit, highest_digit, most_registers, most_register};
 ghost use Rattle.meaning.specs.Doers.{slip_rule, slip_first};
