@@ -14,7 +14,7 @@ use std::fmt;
 // the contract of a function that does nothing else: docs/LAWS.md tells them in plain words.
 
 // A symbol of a line: the classes from `low` to `high`, and the action code that goes with each.
-#[derive(Clone, Copy, PartialEq, Eq, Debug)]
+#[derive(Clone, Copy, PartialEq, Eq, Debug, Default)]
 pub struct Symbol {
     pub low: u16,
     pub high: u16,
@@ -22,7 +22,7 @@ pub struct Symbol {
 }
 
 // A piece of an extent: the number of the line that it is a word of, its place and its length.
-#[derive(Clone, Copy, PartialEq, Eq, Debug)]
+#[derive(Clone, Copy, PartialEq, Eq, Debug, Default)]
 pub struct Piece {
     pub line: usize,
     pub place: usize,
@@ -44,270 +44,200 @@ impl fmt::Display for Piece {
 // ---- Alphabets
 
 // The class of every piece is below the count of pieces.
-pub fn class_law() -> u8
+pub fn class_law()
     ensures { PieceBelow }
-{
-    0
-}
+{}
 
 // Bytes and pieces are alphabets: a count from 1 to 256, and every class below it.
-pub fn alphabet_law() -> u8
+pub fn alphabet_law()
     ensures { AlphabetLaw }
-{
-    0
-}
+{}
 
 // ---- Texts
 
 // A text is read in one way: it writes at most one line, and no line's text goes on to another's.
-pub fn one_reading() -> u8
+pub fn one_reading()
     ensures number { OneNumber }
     ensures form { OneForm }
     ensures list { OneList }
     ensures line { OneLine }
     ensures meaning { OneMeaning }
     ensures front { NoFront }
-{
-    0
-}
+{}
 
 // A well-formed text has no bad byte, and any other text has one.
-pub fn one_bad_byte() -> u8
+pub fn one_bad_byte()
     ensures nothing { NothingBad }
     ensures single { OneBad }
     ensures told { Told }
-{
-    0
-}
+{}
 
 // The brackets of a well-formed text balance, and not before its end.
-pub fn brackets_balance() -> u8
+pub fn brackets_balance()
     ensures { Balanced }
-{
-    0
-}
+{}
 
 // A text has one first fault, or is a line with nothing wrong; and that is a line that keeps to the limits.
-pub fn one_verdict() -> u8
+pub fn one_verdict()
     ensures alone { OneWrong }
     ensures single { OneFault }
     ensures judged { Judged }
     ensures limits { Limits }
-{
-    0
-}
+{}
 
 // That a text writes a line, or texts write lines, is known in at most one way.
-pub fn meaning_law() -> u8
+pub fn meaning_law()
     ensures { MeaningLaw }
-{
-    0
-}
+{}
 
 // A text is refused on its own account or accepted, never both, and refused in one way.
-pub fn text_law() -> u8
+pub fn text_law()
     ensures { TextLaw }
-{
-    0
-}
+{}
 
 // ---- Words and position sets
 
 // A mask is a set of positions: union, the empty one, one position, and when two are one.
-pub fn mask_law() -> u8
+pub fn mask_law()
     ensures { MaskLaw }
-{
-    0
-}
+{}
 
 // The positions in the sets of an expression are its own.
-pub fn range_law() -> u8
+pub fn range_law()
     ensures { RangeLaw }
-{
-    0
-}
+{}
 
 // A line's sets have no bit past its end mark.
-pub fn size_law() -> u8
+pub fn size_law()
     ensures { SizeLaw }
-{
-    0
-}
+{}
 
 // The words of a line are exactly the labels of the paths along first, follow and last positions.
-pub fn path_law() -> u8
+pub fn path_law()
     ensures { PathLaw }
-{
-    0
-}
+{}
 
 // A class string is that of a word exactly when the moves over it reach the end mark.
-pub fn followpos_law() -> u8
+pub fn followpos_law()
     ensures { FollowposLaw }
-{
-    0
-}
+{}
 
 // ---- Clashes
 
 // A line clashes exactly when two positions with different codes meet.
-pub fn clash_law() -> u8
+pub fn clash_law()
     ensures { ClashLaw }
-{
-    0
-}
+{}
 
 // Meeting is the closure of the pairs in the first set under moves.
-pub fn meet_law() -> u8
+pub fn meet_law()
     ensures { MeetLaw }
-{
-    0
-}
+{}
 
 // A line that clashes has a first clash; meeting and clashing are decided.
-pub fn first_clash_law() -> u8
+pub fn first_clash_law()
     ensures { FirstClashLaw }
-{
-    0
-}
+{}
 
 // In a line without a clash every reached set has one code for a class, and a class string one word.
-pub fn clear_law() -> u8
+pub fn clear_law()
     ensures { ClearLaw }
-{
-    0
-}
+{}
 
 // ---- States
 
 // The numbering of states is one, and more than 64 excludes at most 64.
-pub fn numbering_law() -> u8
+pub fn numbering_law()
     ensures { NumberingLaw }
-{
-    0
-}
+{}
 
 // Lines have at most 64 states or more than 64.
-pub fn count_law() -> u8
+pub fn count_law()
     ensures { CountLaw }
-{
-    0
-}
+{}
 
 // A numbered state is reached by moves, and what moves reach is empty or numbered.
-pub fn reach_law() -> u8
+pub fn reach_law()
     ensures { ReachLaw }
-{
-    0
-}
+{}
 
 // The numbered states are exactly the non-empty ones that moves reach.
-pub fn exact_law() -> u8
+pub fn exact_law()
     ensures { ExactLaw }
-{
-    0
-}
+{}
 
 // The k-th set of a state is what the moves of line k give; there are eight sets.
-pub fn line_law() -> u8
+pub fn line_law()
     ensures { LineLaw }
-{
-    0
-}
+{}
 
 // ---- Pieces and readings
 
 // Cut, pieces and reading are one: pieces, place and why are determined.
-pub fn reading_law() -> u8
+pub fn reading_law()
     ensures { ReadingLaw }
-{
-    0
-}
+{}
 
 // Lengths of listed pieces add up to the place reached, inside the extent.
-pub fn adjoin_law() -> u8
+pub fn adjoin_law()
     ensures { AdjoinLaw }
-{
-    0
-}
+{}
 
 // Over lines without a clash there is a cut where a word fits, and a reading; a piece gives its line's one translation.
-pub fn piece_law() -> u8
+pub fn piece_law()
     ensures { PieceLaw }
-{
-    0
-}
+{}
 
 // ---- Doers
 
 // What a piece gives, a doer does and a play leaves is one, and every play has an outcome.
-pub fn play_law<S>() -> u8
+pub fn play_law<S>()
     ensures { PlayLaw S }
-{
-    0
-}
+{}
 
 // The tape keeps every code in order within its cells, and turns one away exactly when full.
-pub fn tape_law() -> u8
+pub fn tape_law()
     ensures { TapeLaw }
-{
-    0
-}
+{}
 
 // The slip has eight registers, none above the highest value, wherever its rule leads.
-pub fn slip_law() -> u8
+pub fn slip_law()
     ensures { SlipLaw }
-{
-    0
-}
+{}
 
 // ---- Runs and tests
 
 // A line has one first clash, and an opening and the check before it one outcome.
-pub fn refusal_law() -> u8
+pub fn refusal_law()
     ensures { RefusalLaw }
-{
-    0
-}
+{}
 
 // On memory that is too small every call is refused 25, and nothing changes.
-pub fn shut_law<S>() -> u8
+pub fn shut_law<S>()
     ensures { ShutLaw S }
-{
-    0
-}
+{}
 
 // The calls, and what is lent for them, decide every answer, every cell and the doer's state.
-pub fn run_law<S>() -> u8
+pub fn run_law<S>()
     ensures { RunLaw S }
-{
-    0
-}
+{}
 
 // The calls decide the account of a run.
-pub fn account_law<S>() -> u8
+pub fn account_law<S>()
     ensures { AccountLaw S }
-{
-    0
-}
+{}
 
 // Every run has an outcome, so with `run_law` exactly one.
-pub fn outcome_law<S>() -> u8
+pub fn outcome_law<S>()
     ensures { OutcomeLaw S }
-{
-    0
-}
+{}
 
 // A test has one verdict, and leaves the code cells in one way.
-pub fn test_law() -> u8
+pub fn test_law()
     ensures { TestLaw }
-{
-    0
-}
+{}
 
 // Over texts that were accepted every test has a verdict, so with `test_law` exactly one.
-pub fn verdict_law() -> u8
+pub fn verdict_law()
     ensures { VerdictLaw }
-{
-    0
-}
+{}
