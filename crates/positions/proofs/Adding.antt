@@ -43,17 +43,17 @@ adds_same m i s h e = adds_none (Row (i + 1) s) m (λ p q (r, (o, k)). (
 -- a row that becomes more
 pub adds_row : (m : Meetings) (i s : ℕ) → i < 64 → length m.known ≡ 64 → get_or m.known i 0 < 2 ^ 64
     → (bit_or (get_or m.known i 0) s ≡ get_or m.known i 0 → ⊥)
-    → Adds (Row (i + 1) s) m (record { known = set m.known i (bit_or (get_or m.known i 0) s); rows = bit_or m.rows (2 ^ i) })
+    → Adds (Row (i + 1) s) m (record { known = set m.known i (bit_or (get_or m.known i 0) s); rows = record { 0 = bit_or m.rows.0 (2 ^ i) } })
 adds_row m i s h l f d = record {
   kept = λ p q (o, u, k). (o, u, kept p q o.0 u.0 k);
   all = λ p q (r, (u, k)). ((omega arith, omega arith), u, all p q r u.0 k);
   only = λ p q (o, u, k). elim (new p q o.0 u.0 k) [ inl x ↦ inl (o, u, x) | inr (r, x) ↦ inr (r, (u, x)) ];
-  rows = λ p (o, k). (o, (in_left m.rows (2 ^ i) p (o.0, k)).1);
+  rows = λ p (o, k). (o, (in_left m.rows.0 (2 ^ i) p (o.0, k)).1);
   grown = λ p q (o, u, k). elim (new p q o.0 u.0 k) [
     | inl x ↦ inl (o, u, x)
-    | inr (r, x) ↦ inr (o, (in_right m.rows (2 ^ i) p (o.0, subst (λ n. has (2 ^ i) n ≡ true) (sym r) (one_in i).1)).1)
+    | inr (r, x) ↦ inr (o, (in_right m.rows.0 (2 ^ i) p (o.0, subst (λ n. has (2 ^ i) n ≡ true) (sym r) (one_in i).1)).1)
   ];
-  word = λ w. or_lt 64 m.rows (2 ^ i) w (pow-lt h);
+  word = λ w. or_lt 64 m.rows.0 (2 ^ i) w (pow-lt h);
   fewer = inr fewer;
 }
   where

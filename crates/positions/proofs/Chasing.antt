@@ -1,27 +1,27 @@
 -- The search for all meetings: what it knows at each turn, and at the end. Assumes nothing.
 use Rattle.std.proofs.Common.{◌≡◌, ℕ, ◌+◌, ◌-◌, ◌*◌, ◌^◌, ◌<◌, true, ◌⊎◌, List, get_or, sym, ap, ◌∙◌, subst, inl, inr, arith}
+use Rattle.std.proofs.lemmas.List.{get_or-replicate}
 use lib.Bits.{bit_or}
 use Rattle.meaning.specs.Positions.{has}
 use Rattle.meaning.proofs.Masks.{in_or, in_one, in_zero}
 use Rattle.positions.specs.declared.meeting.Meetings.{Meetings}
 use Rattle.positions.specs.Masks.{at, Union}
 use Rattle.positions.specs.Meets.{Within, Has, Block, missing, Nothing, Adds, InPairs, first_pair, next_pair, AllMeetings}
-use Rattle.positions.proofs.Beside.{zeros}
 use Rattle.positions.proofs.Marking.{at_is}
 
 has_nothing : (m : Meetings) (p q : ℕ) → Nothing m → Has m.known p q → ⊥
-has_nothing m p q n (o, u, h) = in_zero q (u.0, ap (λ k. has k q) (sym (ap (λ t. at t p) n.known ∙ zeros 64 (p - 1))) ∙ h)
+has_nothing m p q n (o, u, h) = in_zero q (u.0, ap (λ k. has k q) (sym (ap (λ t. at t p) n.known ∙ get_or-replicate 64 (p - 1) 0 0 (omega arith))) ∙ h)
 
 -- the meetings without one of the rows
 abbrev pub without : Meetings → ℕ → Meetings
-without m rest = record { known = m.known; rows = rest }
+without m rest = record { known = m.known; rows = record { 0 = rest } }
 
 module _ (first : ℕ) (follow beside : List ℕ) where
   -- only true meetings are known, those of the first set are, and so are those behind a row that is not to be followed
   pub record Closing (m : Meetings) : Type 0 where
     pub sound : (p q : ℕ) → Has m.known p q → InPairs first follow beside p q
     pub firsts : (p q : ℕ) → Block first first beside p q → Has m.known p q
-    pub closed : (p q p' q' : ℕ) → Has m.known p q → Block (at follow p) (at follow q) beside p' q' → Within m.rows p ⊎ Has m.known p' q'
+    pub closed : (p q p' q' : ℕ) → Has m.known p q → Block (at follow p) (at follow q) beside p' q' → Within m.rows.0 p ⊎ Has m.known p' q'
 
   pub closing_first : (none m : Meetings) → Nothing none → Adds (Block first first beside) none m → Closing m
   closing_first none m n a = record {
@@ -30,7 +30,7 @@ module _ (first : ℕ) (follow beside : List ℕ) where
     closed = λ p q p' q' h b. elim (a.grown p q h) [ inl x ↦ absurd (has_nothing none p q n x) | inr r ↦ inl r ];
   }
 
-  module _ (m n : Meetings) (rest k next : ℕ) (low : k < 64) (rows : m.rows ≡ bit_or rest (2 ^ k)) (union : Union follow (get_or m.known k 0) next)
+  module _ (m n : Meetings) (rest k next : ℕ) (low : k < 64) (rows : m.rows.0 ≡ bit_or rest (2 ^ k)) (union : Union follow (get_or m.known k 0) next)
       (now : Closing m) (adds : Adds (Block (get_or follow k 0) next beside) (without m rest) n) where
     -- what is new comes from a meeting of the row
     behind : (p' q' : ℕ) → Block (get_or follow k 0) next beside p' q' → (q : ℕ) × Has m.known (k + 1) q × Block (at follow (k + 1)) (at follow q) beside p' q'
@@ -68,7 +68,7 @@ module _ (first : ℕ) (follow beside : List ℕ) where
       ];
     }
 
-  pub closing_all : (m : Meetings) → m.rows ≡ 0 → Closing m → AllMeetings first follow beside m.known
+  pub closing_all : (m : Meetings) → m.rows.0 ≡ 0 → Closing m → AllMeetings first follow beside m.known
   closing_all m e now p q = (now.sound p q, back)
     where
       back : {p q : ℕ} → InPairs first follow beside p q → Has m.known p q
@@ -80,11 +80,4 @@ module _ (first : ℕ) (follow beside : List ℕ) where
 
 -- what is missing counts first, and then the rows
 abbrev pub far : Meetings → ℕ
-far m = missing m.known * 2 ^ 64 + m.rows
-
-pub far_less : (m n : Meetings) (rest : ℕ) → rest < m.rows → n.rows < 2 ^ 64
-    → (n ≡ without m rest) ⊎ (missing n.known < missing m.known) → far n < far m
-far_less m n rest l h f = elim f [
-  | inl e ↦ subst (λ x. far x < far m) (sym e) (omega arith)
-  | inr g ↦ omega arith
-]
+far m = missing m.known * 2 ^ 64 + m.rows.0

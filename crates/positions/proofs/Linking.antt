@@ -1,10 +1,8 @@
 -- A table of sets that is linked place by place. Assumes nothing.
-use Rattle.std.proofs.Common.{◌≡◌, ℕ, ◌+◌, ◌-◌, ◌/◌, ◌^◌, ◌<◌, ◌≤◌, ◌≢◌, List, length, get_or, set, sym, refl, ap, ◌∙◌, arith, length-set, get_or-set_other, below_more}
-use lib.Bits.{bit_and, bit_or, or_zero_r}
+use Rattle.std.proofs.Common.{◌≡◌, ℕ, ◌+◌, ◌<◌, ◌≤◌, ◌≢◌, List, length, get_or, set, ap, ◌∙◌, arith, length-set, get_or-set_other}
+use lib.Bits.{bit_or}
+use Rattle.std.proofs.lemmas.List.Edits.{fill_by_more}
 use Rattle.meaning.specs.Positions.{has, given}
-use Rattle.positions.specs.Masks.{Linked}
-use Rattle.positions.proofs.Bits.{bit_in, bit_out}
-use Rattle.positions.proofs.Filling.{filled_more}
 
 module _ (before : List ℕ) (last next : ℕ) where
   -- what the place k has when it is linked
@@ -17,25 +15,10 @@ module _ (before : List ℕ) (last next : ℕ) where
     pub below : (k : ℕ) → k < i → get_or after k 0 ≡ linked_at k
     pub above : (k : ℕ) → i ≤ k → get_or after k 0 ≡ get_or before k 0
 
-  pub linked_none : length before ≡ 64 → LinkedBelow before 0
-  linked_none h = record { long = h; below = λ k m. absurd (omega arith); above = λ k m. refl }
-
-  -- the place i has a position of `last`
-  pub linked_more :
-      (after : List ℕ) (i : ℕ) → i < 64 → bit_and (last / 2 ^ i) 1 ≡ 1 → LinkedBelow after i → LinkedBelow (set after i (bit_or (get_or after i 0) next)) (i + 1)
-  linked_more after i m t l = record {
+  -- the place i is linked
+  pub linked_more : (after : List ℕ) (i v : ℕ) → i < length after → v ≡ bit_or (get_or after i 0) (given (has last (i + 1)) next) → LinkedBelow after i → LinkedBelow (set after i v) (i + 1)
+  linked_more after i v m e l = record {
     long = simp length-set l.long;
-    below = filled_more (λ k v. v ≡ linked_at k) after i _ 0 (omega arith) l.below (rw (l.above i (omega arith), bit_in last i t));
+    below = rw (e ∙ ap (λ x. bit_or x (given (has last (i + 1)) next)) (l.above i (omega arith))) (fill_by_more linked_at after i 0 m l.below);
     above = λ k h. let ne : k ≢ i = omega arith in rw get_or-set_other (l.above k (omega arith));
   }
-
-  -- it has none
-  pub linked_same : (after : List ℕ) (i : ℕ) → (bit_and (last / 2 ^ i) 1 ≡ 1 → ⊥) → LinkedBelow after i → LinkedBelow after (i + 1)
-  linked_same after i t l = record {
-    long = l.long;
-    below = below_more _ _ l.below (l.above i (omega arith) ∙ rw (bit_out last i t) (sym (or_zero_r _)));
-    above = λ k h. l.above k (omega arith);
-  }
-
-  pub linked_all : (after : List ℕ) (i : ℕ) → 64 ≤ i → LinkedBelow after i → Linked before last next after
-  linked_all after i m l p h = l.below (p - 1) (omega arith) ∙ ap (λ q. bit_or (get_or before (p - 1) 0) (given (has last q) next)) (omega arith)

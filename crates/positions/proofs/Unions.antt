@@ -2,7 +2,7 @@
 use Rattle.std.proofs.Common.{◌≡◌, ℕ, ◌+◌, ◌^◌, ◌<◌, ◌≤◌, true, ◌⊎◌, List, get_or, sym, subst, inl, inr, arith}
 use lib.Bits.{bit_or}
 use Rattle.meaning.specs.Positions.{has}
-use Rattle.meaning.proofs.Masks.{in_or, in_left, in_right, in_one, one_in, in_zero}
+use Rattle.meaning.proofs.Masks.{in_or, in_left, in_right, in_one, one_in}
 use Rattle.positions.specs.Masks.{InUnion}
 
 module _ (table : List ℕ) where
@@ -10,15 +10,6 @@ module _ (table : List ℕ) where
   abbrev pub Taken : ℕ → ℕ → ℕ → Type 0
   Taken set all rest = (q : ℕ) → 1 ≤ q → ((has all q ≡ true) ⊎ InUnion table rest q → InUnion table set q)
       × (InUnion table set q → (has all q ≡ true) ⊎ InUnion table rest q)
-
-  pub taken_none : (set : ℕ) → Taken set 0 set
-  taken_none set q h = (λ u. elim u [ inl z ↦ absurd (in_zero q (h, z)) | inr i ↦ i ], λ i. inr i)
-
-  pub taken_all : (set all q : ℕ) → Taken set all 0 → 1 ≤ q → (has all q ≡ true → InUnion table set q) × (InUnion table set q → has all q ≡ true)
-  taken_all set all q t h = (
-    λ e. (t q h).0 (inl e),
-    λ i. elim ((t q h).1 i) [ inl e ↦ e | inr (p, o, m, n) ↦ absurd (in_zero p (o.0, m)) ],
-  )
 
   union_more : (m k q : ℕ) → k < 64 → 1 ≤ q → (has (get_or table k 0) q ≡ true) ⊎ InUnion table m q → InUnion table (bit_or m (2 ^ k)) q
   union_more m k q l h u = elim u [

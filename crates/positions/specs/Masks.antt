@@ -1,6 +1,8 @@
 -- The symbols and position sets of a line as arrays of numbers, with position p at place p - 1 and at bit p - 1. Assumes nothing.
-use Rattle.std.specs.Prelude.{◌≡◌, ℕ, ◌+◌, ◌-◌, ◌<◌, ◌≤◌, Bool, true, ◌&&◌, List, length, take, bit_or, nat_le, slice_index, slice_index_or}
+use Rattle.std.specs.Prelude.{◌≡◌, ℕ, ◌+◌, ◌-◌, ◌<◌, ◌≤◌, Bool, true, ◌↔◌, List, length, take, bit_or, slice_index, slice_index_or}
 use Rattle.meaning.specs.declared.Symbol.{Symbol}
+use Rattle.positions.specs.Ranges.{Shared}
+use Rattle.positions.specs.declared.symbols.Symbols.{Symbols}
 use Rattle.meaning.specs.Bounds.{most_symbols, most_classes}
 use Rattle.meaning.specs.Words.{Line}
 use Rattle.meaning.specs.Positions.{has, given, holds, no_symbol, line_symbols, first_set, follow_set, nullable, firstpos, lastpos, followpos}
@@ -25,29 +27,32 @@ InUnion table set q = (p : ℕ) × Position p × (has set p ≡ true) × (has (a
 abbrev pub Union : List ℕ → ℕ → ℕ → Type 0
 Union table set r = (q : ℕ) → 1 ≤ q → (has r q ≡ true → InUnion table set q) × (InUnion table set q → has r q ≡ true)
 
--- `set` has the positions among the first `count` that pass the test
-abbrev pub Chosen : ℕ → (ℕ → Bool) → ℕ → Type 0
-Chosen count test set = (p : ℕ) → 1 ≤ p → has set p ≡ (nat_le p count && test p)
+-- the symbols that are held
+abbrev pub held : Symbols → List Symbol
+held s = take s.len s.array
 
--- `set` has the positions among the first `count` whose range holds the class c
-abbrev pub ClassMask : ℕ → List Symbol → ℕ → ℕ → Type 0
-ClassMask count symbols c set = Chosen count (λ p. holds (slice_index_or symbols (p - 1) no_symbol) c) set
+-- what stands at the position p among symbols
+abbrev pub nth : List Symbol → ℕ → Symbol
+nth symbols p = slice_index_or symbols (p - 1) no_symbol
 
--- for each class, the positions among the first `count` whose range holds it
-abbrev pub ClassMasks : ℕ → List Symbol → List ℕ → Type 0
-ClassMasks count symbols masks = (c : ℕ) → c < most_classes → ClassMask count symbols c (slice_index masks c)
+-- `set` has the positions of symbols whose range has a class from `low` to `high`
+abbrev pub Overlapping : List Symbol → ℕ → ℕ → ℕ → Type 0
+Overlapping symbols low high set = (p : ℕ) → 1 ≤ p → (has set p ≡ true) ↔ ((p ≤ length symbols) × Shared low high (nth symbols p))
+
+-- for each class, the positions of symbols whose range holds it
+abbrev pub ClassMasks : List Symbol → List ℕ → Type 0
+ClassMasks symbols masks = (c p : ℕ) → c < most_classes → 1 ≤ p → (has (slice_index masks c) p ≡ true) ↔ ((p ≤ length symbols) × (holds (nth symbols p) c ≡ true))
 
 -- what was read of a line's expression: its symbols, and its sets without the end mark
-pub record ExpressionSets (l : Line) (count : ℕ) (symbols : List Symbol) (follow : List ℕ) (empty : Bool) (first last : ℕ) : Type 0 where
-  pub symbols_are : take count symbols ≡ line_symbols l
+pub record ExpressionSets (l : Line) (symbols : List Symbol) (follow : List ℕ) (empty : Bool) (first last : ℕ) : Type 0 where
+  pub symbols_are : symbols ≡ line_symbols l
   pub follow_is : (p : ℕ) → Position p → at follow p ≡ followpos l.expr 0 p
   pub empty_is : empty ≡ nullable l.expr
   pub first_is : first ≡ firstpos l.expr 0
   pub last_is : last ≡ lastpos l.expr 0
 
 -- a line's symbols and its sets, with the end mark
-pub record LineSets (l : Line) (count : ℕ) (symbols : List Symbol) (first : ℕ) (follow : List ℕ) : Type 0 where
-  pub count_is : count ≡ length (line_symbols l)
-  pub symbols_are : take count symbols ≡ line_symbols l
+pub record LineSets (l : Line) (symbols : List Symbol) (first : ℕ) (follow : List ℕ) : Type 0 where
+  pub symbols_are : symbols ≡ line_symbols l
   pub first_is : first ≡ first_set l
   pub follow_is : (p : ℕ) → Position p → at follow p ≡ follow_set l p

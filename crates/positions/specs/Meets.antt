@@ -1,25 +1,18 @@
 -- Which positions meet, as tables of sets with position p at place p - 1 and at bit p - 1. Assumes nothing.
-use Rattle.std.specs.Prelude.{◌≡◌, ℕ, ◌-◌, ◌^◌, ◌<◌, ◌≤◌, true, ◌⊎◌, ◌↔◌, List, replicate, sum_by, slice_index_or}
+use Rattle.std.specs.Prelude.{◌≡◌, ℕ, ◌-◌, ◌^◌, ◌<◌, ◌≤◌, true, ◌⊎◌, ◌↔◌, List, length, replicate, sum_by}
 use Rattle.meaning.specs.declared.Symbol.{Symbol}
-use Rattle.meaning.specs.Positions.{has, holds, no_symbol}
+use Rattle.meaning.specs.Positions.{has}
 use Rattle.positions.specs.declared.meeting.Meetings.{Meetings}
-use Rattle.positions.specs.Masks.{at, Position}
+use Rattle.positions.specs.Masks.{at, Position, nth}
+use Rattle.positions.specs.Ranges.{Shared}
 
--- some class lies in both ranges
-abbrev pub Shared : Symbol → Symbol → Type 0
-Shared a b = (c : ℕ) × (holds a c ≡ true) × (holds b c ≡ true)
+-- `set` has the positions of symbols whose ranges share a class with that of the position p, if p has a symbol
+abbrev pub BesideAt : List Symbol → ℕ → ℕ → Type 0
+BesideAt symbols p set = (q : ℕ) → 1 ≤ q → (has set q ≡ true) ↔ ((p ≤ length symbols) × (q ≤ length symbols) × Shared (nth symbols p).low (nth symbols p).high (nth symbols q))
 
--- what stands at the position p among symbols
-abbrev pub nth : List Symbol → ℕ → Symbol
-nth symbols p = slice_index_or symbols (p - 1) no_symbol
-
--- `set` has the positions up to `count` whose ranges share a class with that of `s`
-abbrev pub Overlapping : ℕ → List Symbol → Symbol → ℕ → Type 0
-Overlapping count symbols s set = (q : ℕ) → 1 ≤ q → (has set q ≡ true) ↔ ((q ≤ count) × Shared s (nth symbols q))
-
--- the table has for each position up to `rows` those up to `count` whose ranges share a class with its own, and nothing for the others
-abbrev pub Beside : ℕ → ℕ → List Symbol → List ℕ → Type 0
-Beside rows count symbols table = (p q : ℕ) → 1 ≤ p → 1 ≤ q → (has (at table p) q ≡ true) ↔ ((p ≤ rows) × (q ≤ count) × Shared (nth symbols p) (nth symbols q))
+-- the table has that set for each position
+abbrev pub Beside : List Symbol → List ℕ → Type 0
+Beside symbols table = (p : ℕ) → Position p → BesideAt symbols p (at table p)
 
 -- p is a position of the set
 abbrev pub Within : ℕ → ℕ → Type 0
@@ -44,16 +37,16 @@ missing table = sum_by (λ set. 2 ^ 64 - set) table
 -- no meetings
 pub record Nothing (m : Meetings) : Type 0 where
   pub known : m.known ≡ replicate 64 0
-  pub rows : m.rows ≡ 0
+  pub rows : m.rows.0 ≡ 0
 
 -- `after` knows the meetings of `before` and the pairs of `New`, and has the rows that grew beside those that `before` has; it is `before` or misses less
 pub record Adds (New : ℕ → ℕ → Type 0) (before after : Meetings) : Type 0 where
   pub kept : (p q : ℕ) → Has before.known p q → Has after.known p q
   pub all : (p q : ℕ) → New p q → Has after.known p q
   pub only : (p q : ℕ) → Has after.known p q → Has before.known p q ⊎ New p q
-  pub rows : (p : ℕ) → Within before.rows p → Within after.rows p
-  pub grown : (p q : ℕ) → Has after.known p q → Has before.known p q ⊎ Within after.rows p
-  pub word : before.rows < 2 ^ 64 → after.rows < 2 ^ 64
+  pub rows : (p : ℕ) → Within before.rows.0 p → Within after.rows.0 p
+  pub grown : (p q : ℕ) → Has after.known p q → Has before.known p q ⊎ Within after.rows.0 p
+  pub word : before.rows.0 < 2 ^ 64 → after.rows.0 < 2 ^ 64
   pub fewer : (after ≡ before) ⊎ (missing after.known < missing before.known)
 
 -- the pairs that two sets lead to in step, where the table `beside` has them

@@ -1,68 +1,63 @@
-ghost use Rattle.std.specs.Prelude.{◌≡◌, ℕ, ◌+◌, ◌^◌, ◌<◌, ◌≤◌, [], ◌∷◌, ◌++◌, take, replicate, nat_le, slice_set};
-ghost use Rattle.positions.specs.Masks.{Linked};
+ghost use Rattle.std.specs.Prelude.{◌≡◌, ◌+◌, ◌^◌, ◌<◌, [], ◌∷◌, ◌++◌, replicate, nat_le, slice_set};
+ghost use Rattle.positions.specs.Masks.{held, Linked};
 
 use crate::limits::*;
+use crate::masks::has;
+use crate::symbols::Symbols;
 use meaning::Symbol;
 
 // A line as far as it was read: its symbols, and for each position those that can follow it.
 #[derive(Clone, Copy)]
 pub struct Draft {
-    pub(crate) count: usize,
-    pub(crate) symbols: [Symbol; MOST_SYMBOLS],
+    pub(crate) symbols: Symbols,
     pub(crate) follow: [u64; MOST_POSITIONS],
-    ghost few: { count ≤ 63 },
 }
 
 impl Draft {
     pub fn new() -> Draft
-        ensures count { result.count ≡ 0 }
+        ensures count { result.symbols.len ≡ 0 }
         ensures follow { result.follow ≡ replicate 64 0 }
     {
         Draft {
-            count: 0,
-            symbols: [Symbol {
-                low: 0,
-                high: 0,
-                code: 0,
-            }; MOST_SYMBOLS],
+            symbols: Symbols::new(),
             follow: [0; MOST_POSITIONS],
         }
     }
 
     // No further symbol has a position.
     pub fn is_full(&self) -> bool
-        ensures { result ≡ nat_le 63 self.now.count }
+        ensures { result ≡ nat_le 63 self.now.symbols.len }
     {
-        self.count >= MOST_SYMBOLS
+        self.symbols.is_full()
     }
 
     // One symbol more; answers the set of its position alone, which is empty where the draft is full.
+    // Stays: 0, and no condition on the caller, which no public call has; the empty set is a set as any other, to which an `Option` would be unwrapped.
     pub fn add(&mut self, symbol: Symbol) -> u64
-        ensures full { self.old.count ≡ 63 → (result ≡ 0) × (self.new ≡ self.old) }
-        ensures position { self.old.count < 63 → result ≡ 2 ^ self.old.count }
-        ensures count { self.old.count < 63 → self.new.count ≡ self.old.count + 1 }
-        ensures symbols { self.old.count < 63 → self.new.symbols ≡ slice_set self.old.symbols self.old.count symbol }
-        ensures taken { self.old.count < 63 → take (self.old.count + 1) self.new.symbols ≡ take self.old.count self.old.symbols ++ symbol ∷ [] }
+        ensures full { self.old.symbols.len ≡ 63 → (result ≡ 0) × (self.new ≡ self.old) }
+        ensures position { self.old.symbols.len < 63 → result ≡ 2 ^ self.old.symbols.len }
+        ensures count { self.old.symbols.len < 63 → self.new.symbols.len ≡ self.old.symbols.len + 1 }
+        ensures symbols { self.old.symbols.len < 63 → self.new.symbols.array ≡ slice_set self.old.symbols.array self.old.symbols.len symbol }
+        ensures taken { self.old.symbols.len < 63 → held self.new.symbols ≡ held self.old.symbols ++ symbol ∷ [] }
         ensures follow { self.new.follow ≡ self.old.follow }
     {
-        let at = self.count;
-        if at >= MOST_SYMBOLS {
+        if self.symbols.is_full() {
             return 0;
         }
-        self.symbols[at] = symbol;
-        self.count = at + 1;
+        let at = self.symbols.len();
+        self.symbols.push(symbol);
         1 << at
     }
 
     // The positions of `after` can follow those of `last`.
     pub fn link(&mut self, last: u64, after: u64)
-        ensures count { self.new.count ≡ self.old.count }
+        ensures count { self.new.symbols.len ≡ self.old.symbols.len }
         ensures symbols { self.new.symbols ≡ self.old.symbols }
         ensures follow { Linked self.old.follow last after self.new.follow }
     {
-        for p in 0..MOST_POSITIONS {
-            if (last >> p) & 1 == 1 {
-                self.follow[p] |= after;
+        for (p, row) in self.follow.iter_mut().enumerate() {
+            if has(last, p) {
+                *row |= after;
             }
         }
     }

@@ -6,9 +6,9 @@ mod draft;
 mod limits;
 mod masks;
 mod meeting;
-mod moves;
 mod part;
 mod sets;
+mod symbols;
 
 pub use draft::Draft;
 pub use limits::{

@@ -1,46 +1,48 @@
-ghost use Rattle.positions.specs.Masks.{Union, ClassMask, ClassMasks};
-ghost use Rattle.std.specs.Prelude.{◌≤◌};
 // Sets of positions as masks.
+ghost use Rattle.std.specs.Prelude.{◌≡◌, ◌+◌, ◌<◌};
+ghost use Rattle.std.specs.Iterator.{at_most};
+ghost use Rattle.meaning.specs.Positions.{has as in_set};
+ghost use Rattle.positions.specs.Masks.{Union};
+ghost use Rattle.positions.specs.Taking.{TakesLowest};
+
 use crate::limits::*;
-use meaning::Symbol;
+
+// Whether a set has the position p + 1.
+pub(crate) fn has(set: u64, p: usize) -> bool
+    requires { p < 64 }
+    ensures { result ≡ in_set set (p + 1) }
+{
+    (set >> p) & 1 == 1
+}
+
+// A set of positions; as an iterator it gives its lowest position, as the bit that it is, and takes it out.
+#[derive(Clone, Copy)]
+pub(crate) struct Positions(pub(crate) u64);
+
+impl Iterator for Positions {
+    type Item = usize;
+
+    ghost next_gives = { TakesLowest };
+
+    ghost remaining = { λ s. at_most s.0 };
+
+    fn next(&mut self) -> Option<usize> {
+        if self.0 == 0 {
+            return None;
+        }
+        let p = self.0.trailing_zeros() as usize;
+        self.0 &= self.0 - 1;
+        Some(p)
+    }
+}
 
 // The union of what follows the positions of `set`.
 pub(crate) fn union(follow: &[u64; MOST_POSITIONS], set: u64) -> u64
     ensures { Union follow.now set result }
 {
     let mut all = 0;
-    let mut rest = set;
-    while rest != 0 {
-        let p = rest.trailing_zeros() as usize;
+    for p in Positions(set) {
         all |= follow[p];
-        rest &= rest - 1;
     }
     all
-}
-
-// For each class, the positions whose range holds it.
-pub(crate) fn class_masks(symbols: &[Symbol; MOST_SYMBOLS], count: usize) -> [u64; MOST_CLASSES]
-    requires { count ≤ 63 }
-    ensures { ClassMasks count symbols.now result }
-{
-    let mut holds = [0; MOST_CLASSES];
-    for c in 0..MOST_CLASSES {
-        holds[c] = holding(symbols, count, c);
-    }
-    holds
-}
-
-// The positions whose range holds a class.
-fn holding(symbols: &[Symbol; MOST_SYMBOLS], count: usize, class: usize) -> u64
-    requires { count ≤ 63 }
-    ensures { ClassMask count symbols.now class result }
-{
-    let mut set = 0;
-    for p in 0..count {
-        let symbol = symbols[p];
-        if symbol.low as usize <= class && class <= symbol.high as usize {
-            set |= 1 << p;
-        }
-    }
-    set
 }

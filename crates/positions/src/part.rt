@@ -1,6 +1,4 @@
-// What an expression adds to a line's sets.
-
-// Whether an expression has the empty word, and the positions that its words begin and end with.
+// What an expression adds to a line's sets: whether it has the empty word, and the positions that its words begin and end with.
 #[derive(Clone, Copy, PartialEq, Eq, Debug)]
 pub struct Part {
     pub nullable: bool,

@@ -1,30 +1,16 @@
-use Rattle.std.proofs.Common.{refl, ap, ◌∙◌, rules}
-use Rattle.positions.proofs.Linking.{linked_none, linked_more, linked_same, linked_all}
+use Rattle.std.proofs.Common.{ℕ, ◌<◌, Bool, length, get_or, sym, ap, ◌∙◌, arith}
+use lib.Bits.{bit_or, or_zero_r}
+use Rattle.meaning.specs.Positions.{given}
+use Rattle.positions.proofs.Linking.{linked_more}
 use Rattle.positions.proofs.draft.Draft.link.Goals as goal
-use Rattle.positions.proofs.draft.Draft.link.Goals.{then-last-p-eq1, else-last-p-eq1}
-
-pub loop-p-init : goal.loop-p-init
-loop-p-init c = (refl, refl, linked_none _ _ _ (search rules))
+use Rattle.positions.proofs.draft.Draft.link.Goals.{then-has, else-has}
 
 pub loop-p-preserved : goal.loop-p-preserved
-loop-p-preserved c = elim c.if-last-p-eq1.branch [
-  | then-last-p-eq1 w ↦
-      let e = w.self-is in (
-        ap (λ s. s.count) e ∙ c.loop-p.invariant.0,
-        ap (λ s. s.symbols) e ∙ c.loop-p.invariant.1,
-        rw (ap (λ s. s.follow) e) (linked_more _ _ _ _ _ c.loop-p-test.true w.if-last-p-eq1.true c.loop-p.invariant.2),
-      )
-  | else-last-p-eq1 w ↦
-      let e = w.self-is in (
-        ap (λ s. s.count) e ∙ c.loop-p.invariant.0,
-        ap (λ s. s.symbols) e ∙ c.loop-p.invariant.1,
-        rw (ap (λ s. s.follow) e) (linked_same _ _ _ _ _ w.if-last-p-eq1.false c.loop-p.invariant.2),
-      )
-]
-
-pub returns : goal.returns
-returns c = record {
-  count = c.loop-p.invariant.0;
-  symbols = c.loop-p.invariant.1;
-  follow = linked_all _ _ _ _ _ c.loop-p-test.false c.loop-p.invariant.2;
-}
+loop-p-preserved c =
+    let row : ℕ = get_or c.loop-p.row-items c.loop-p.p 0 in
+    let joined : Bool → ℕ = λ b. bit_or row (given b c.args.after) in
+    let inside : c.loop-p.p < length c.loop-p.row-items = omega (arith, c.loop-p-test.true, c.loop-p.invariant.long) in
+    elim c.if-has.branch [
+      | then-has w ↦ rw w.row-items-is (linked_more _ _ _ _ _ _ inside (ap joined (sym w.if-has.true ∙ c.has.ensures)) c.loop-p.invariant)
+      | else-has w ↦ rw w.row-items-is (linked_more _ _ _ _ _ _ inside (sym (or_zero_r row) ∙ ap joined (sym w.if-has.false ∙ c.has.ensures)) c.loop-p.invariant)
+    ]

@@ -1,0 +1,110 @@
+ghost use Rattle.std.specs.Prelude.{◌≡◌, ◌≤◌, ◌↔◌, true};
+ghost use Rattle.positions.specs.Ranges.{Shared};
+
+use crate::limits::*;
+use meaning::Symbol;
+use std::array;
+
+// The symbols of a line, which stand in the first `len` places of the array.
+// Stays: an array with its count. The engine has no heap, and the kit's `ArrayVec` cannot be copied, as a line's record in a plate's table is.
+#[derive(Clone, Copy)]
+pub(crate) struct Symbols {
+    len: usize,
+    array: [Symbol; MOST_SYMBOLS],
+    ghost few: { len ≤ 63 },
+}
+
+impl Symbols {
+    ghost use Rattle.std.specs.Prelude.{◌≡◌, ◌+◌, ◌<◌, ◌≤◌, length, slice_set, nat_le};
+    ghost use Rattle.positions.specs.Masks.{held, Overlapping, ClassMasks};
+    ghost use Rattle.positions.specs.Meets.{Beside, BesideAt};
+
+    pub(crate) fn new() -> Symbols
+        ensures { result.len ≡ 0 }
+    {
+        Symbols {
+            len: 0,
+            array: [Symbol::default(); MOST_SYMBOLS],
+        }
+    }
+
+    pub(crate) fn len(&self) -> usize
+        ensures { result ≡ self.now.len }
+    {
+        self.len
+    }
+
+    pub(crate) fn is_full(&self) -> bool
+        ensures { result ≡ nat_le 63 self.now.len }
+    {
+        self.len >= MOST_SYMBOLS
+    }
+
+    pub(crate) fn push(&mut self, symbol: Symbol)
+        requires { self.old.len < 63 }
+        ensures len { self.new.len ≡ self.old.len + 1 }
+        ensures array { self.new.array ≡ slice_set self.old.array self.old.len symbol }
+    {
+        self.array[self.len] = symbol;
+        self.len += 1;
+    }
+
+    pub(crate) fn as_slice(&self) -> &[Symbol]
+        ensures value { result.now ≡ held self.now }
+        ensures len { length result.now ≡ self.now.len }
+        ensures few { self.now.len ≤ 63 }
+    {
+        &self.array[..self.len]
+    }
+
+    // The positions whose ranges have a class from `low` to `high`.
+    fn overlapping(&self, low: u16, high: u16) -> u64
+        ensures { Overlapping (held self.now) low high result }
+    {
+        let mut set = 0;
+        for (p, symbol) in self.as_slice().iter().enumerate() {
+            if overlap(symbol, low, high) {
+                set |= 1 << p;
+            }
+        }
+        set
+    }
+
+    // For each class, the positions whose ranges hold it.
+    // Stays: `as`, since a class is below 256.
+    pub(crate) fn class_masks(&self) -> [u64; MOST_CLASSES]
+        ensures { ClassMasks (held self.now) result }
+    {
+        array::from_fn(
+            |class|
+                requires { class < 256 }
+                ensures { Overlapping (held self.entry.now) class class result }
+            { self.overlapping(class as u16, class as u16) },
+        )
+    }
+
+    // For each position, those whose ranges overlap its own.
+    pub(crate) fn overlaps(&self) -> [u64; MOST_POSITIONS]
+        ensures { Beside (held self.now) result }
+    {
+        array::from_fn(
+            |p|
+                requires { p < 64 }
+                ensures { BesideAt (held self.entry.now) (p + 1) result }
+            {
+                match self.as_slice().get(p) {
+                    Some(symbol) => self.overlapping(symbol.low, symbol.high),
+                    None => 0,
+                }
+            },
+        )
+    }
+}
+
+// Some class from `low` to `high` lies in the symbol's range.
+fn overlap(symbol: &Symbol, low: u16, high: u16) -> bool
+    ensures { (result ≡ true) ↔ Shared low high symbol.now }
+{
+    let start = symbol.low.max(low);
+    start <= symbol.high && start <= high
+}
