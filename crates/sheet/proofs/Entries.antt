@@ -26,7 +26,6 @@ same_symbols xs ys = Coded-set (coded_list the_symbol.coded) xs ys
 -- the sets of a line are its sets in one way
 sets_prop : (l : Line) (s : Sets) → IsProp (SetsOf l s)
 sets_prop l s p q = λ i. record {
-  count_is = same_number _ _ p.count_is q.count_is i;
   symbols_are = same_symbols _ _ p.symbols_are q.symbols_are i;
   first_is = same_number _ _ p.first_is q.first_is i;
   follow_is = λ k h. same_number _ _ (p.follow_is k h) (q.follow_is k h) i;

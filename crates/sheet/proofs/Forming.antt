@@ -42,38 +42,38 @@ pub one_read : (join : Join) {count left left' : ℕ} {t : List ℕ} {d : Draft}
 one_read join r h = record { list = one r.expr; after = r.after; stands = h; heads_are = r.heads_are; added = added_one join r.added }
 
 -- and of a list that goes on
-pub more_read : (join : Join) {count left left' : ℕ} {t : List ℕ} {d : Draft} {a b : Reader} {is js : List Item} {ts : List Token} {first rest whole : Part} (c : Reader) (r : ExprRead count t d a is ts left first) → ListRead join count t r.after b js (fixed (ascii " ") ∷ onto (tokens r.expr) ts) left' rest → SamePlace b c → c.draft.count ≡ b.draft.count → AddsMore join b.draft c.draft first rest whole → ListRead join count t d c js ts left' whole
+pub more_read : (join : Join) {count left left' : ℕ} {t : List ℕ} {d : Draft} {a b : Reader} {is js : List Item} {ts : List Token} {first rest whole : Part} (c : Reader) (r : ExprRead count t d a is ts left first) → ListRead join count t r.after b js (fixed (ascii " ") ∷ onto (tokens r.expr) ts) left' rest → SamePlace b c → c.draft.symbols.len ≡ b.draft.symbols.len → AddsMore join b.draft c.draft first rest whole → ListRead join count t d c js ts left' whole
 more_read join {count} {left} {left'} {t} {d} {a} {b} {is} {js} {ts} {first} {rest} {whole} c r s p n adds =
     let e = sym (onto_append (tokens r.expr) (fixed (ascii " ") ∷ list_tokens s.list) ts) in
     record {
       list = more r.expr s.list;
       after = c.draft;
       stands = subst (λ us. Stands count t c.draft c js (closing ∷ us) left') e (with_draft c s.stands p);
-      heads_are = ap heads (sym e) ∙ (s.heads_are ∙ (ap (λ x. x.count) (sym s.stands.draft_is) ∙ sym n));
+      heads_are = ap heads (sym e) ∙ (s.heads_are ∙ (ap (λ x. x.symbols.len) (sym s.stands.draft_is) ∙ sym n));
       added = adds r.expr s.list d r.after r.added (subst (λ x. Added (joins join s.list) r.after x rest) (sym s.stands.draft_is) s.added);
     }
 
-pub none_read : {count left : ℕ} {t : List ℕ} {d : Draft} {b : Reader} {is : List Item} {ts : List Token} → Stands count t d b is (fixed (ascii "(none)") ∷ ts) left → heads ts ≡ d.count → ExprRead count t d b is ts left (record { nullable = true; first = 0; last = 0 })
+pub none_read : {count left : ℕ} {t : List ℕ} {d : Draft} {b : Reader} {is : List Item} {ts : List Token} → Stands count t d b is (fixed (ascii "(none)") ∷ ts) left → heads ts ≡ d.symbols.len → ExprRead count t d b is ts left (record { nullable = true; first = 0; last = 0 })
 none_read {d = d} h m = record { expr = none; after = d; stands = h; heads_are = m; added = added_none d }
 
 -- a symbol that is added to the draft
-pub symbol_read : {count left : ℕ} {t : List ℕ} {d : Draft} {a : Reader} {is : List Item} {ts : List Token} {part : Part} (s : Symbol) (b : Reader) → Stands count t d a is (numbers_onto s (fixed (ascii " ") ∷ sym_head ∷ ts)) left → heads ts ≡ d.count → SamePlace a b → b.draft.count ≡ a.draft.count + 1 → Added (symbol s) a.draft b.draft part → ExprRead count t d b is ts left part
+pub symbol_read : {count left : ℕ} {t : List ℕ} {d : Draft} {a : Reader} {is : List Item} {ts : List Token} {part : Part} (s : Symbol) (b : Reader) → Stands count t d a is (numbers_onto s (fixed (ascii " ") ∷ sym_head ∷ ts)) left → heads ts ≡ d.symbols.len → SamePlace a b → b.draft.symbols.len ≡ a.draft.symbols.len + 1 → Added (symbol s) a.draft b.draft part → ExprRead count t d b is ts left part
 symbol_read {count} {left} {t} {d} {a} {is} {ts} {part} s b h m p c x = record {
   expr = symbol s;
   after = b.draft;
   stands = with_draft b h p;
-  heads_are = let n = ap (λ x. x.count) h.draft_is in omega arith;
+  heads_are = let n = ap (λ x. x.symbols.len) h.draft_is in omega arith;
   added = subst (λ y. Added (symbol s) y b.draft part) h.draft_is x;
 }
 
 -- a form that is starred
-pub star_read : {count left left' : ℕ} {t : List ℕ} {d : Draft} {a b : Reader} {is js : List Item} {ts : List Token} {part whole : Part} (c : Reader) (r : ExprRead count t d a is (fixed (ascii "(star ") ∷ ts) left part) → Stands count t r.after b js (closing ∷ onto (tokens r.expr) (fixed (ascii "(star ") ∷ ts)) left' → SamePlace b c → c.draft.count ≡ b.draft.count → AddsStar b.draft c.draft part whole → ExprRead count t d c js ts left' whole
+pub star_read : {count left left' : ℕ} {t : List ℕ} {d : Draft} {a b : Reader} {is js : List Item} {ts : List Token} {part whole : Part} (c : Reader) (r : ExprRead count t d a is (fixed (ascii "(star ") ∷ ts) left part) → Stands count t r.after b js (closing ∷ onto (tokens r.expr) (fixed (ascii "(star ") ∷ ts)) left' → SamePlace b c → c.draft.symbols.len ≡ b.draft.symbols.len → AddsStar b.draft c.draft part whole → ExprRead count t d c js ts left' whole
 star_read {count} {left} {left'} {t} {d} {a} {b} {is} {js} {ts} {part} c r h p n adds =
     let e = behind_one (tokens r.expr) closing (fixed (ascii "(star ") ∷ ts) in
     record {
       expr = star r.expr;
       after = c.draft;
       stands = subst (λ us. Stands count t c.draft c js us left') e (with_draft c h p);
-      heads_are = ap heads (sym e) ∙ (r.heads_are ∙ (ap (λ x. x.count) (sym h.draft_is) ∙ sym n));
+      heads_are = ap heads (sym e) ∙ (r.heads_are ∙ (ap (λ x. x.symbols.len) (sym h.draft_is) ∙ sym n));
       added = adds r.expr d (subst (λ x. Added r.expr d x part) (sym h.draft_is) r.added);
     }

@@ -22,12 +22,12 @@ use Rattle.sheet.specs.Reading.{Stands, ExprRead}
 use Rattle.sheet.specs.Parsing.{LineRead}
 
 -- a whole expression, behind an empty draft
-pub drafted : {e : Expr} {d after : Draft} {part : Part} (m n : ℕ) → Added e d after part → d.count ≡ 0 → d.follow ≡ replicate 64 0 → Drafted (record { open_code = m; close_code = n; expr = e }) after part
+pub drafted : {e : Expr} {d after : Draft} {part : Part} (m n : ℕ) → Added e d after part → d.symbols.len ≡ 0 → d.follow ≡ replicate 64 0 → Drafted (record { open_code = m; close_code = n; expr = e }) after part
 drafted {e} {d} {after} {part} m n a c f = record {
-  symbols_are = a.symbols_are ∙ ap (λ k. take k d.symbols ++ symbols e) c;
+  symbols_are = a.symbols_are ∙ ap (λ k. take k d.symbols.array ++ symbols e) c;
   follow_is = λ p h.
       let none : at d.follow p ≡ 0 = ap (λ x. at x p) f ∙ get_or-replicate 64 (p - 1) 0 0 (omega arith) in
-      a.follow_is p h ∙ (ap (λ x. bit_or x (followpos e d.count p)) none ∙ ap (λ k. followpos e k p) c);
+      a.follow_is p h ∙ (ap (λ x. bit_or x (followpos e d.symbols.len p)) none ∙ ap (λ k. followpos e k p) c);
   empty_is = a.nullable_is;
   first_is = rw c at a.first_is;
   last_is = rw c at a.last_is;
@@ -47,7 +47,7 @@ module _ (count : ℕ) (t : List ℕ) (m n : ℕ) (e : Expr) (fine : Fine count 
       let same : line_tokens s.line ≡ line_tokens the_line = s.toks ∙ onto_onto (tokens e) (rule_tokens m n) (closing ∷ []) in
       (subst (Each Short) same s.formed, s.text ∙ ap spell_all same)
 
-pub line_read : {count left left' : ℕ} {t : List ℕ} {d : Draft} {a b : Reader} {is : List Item} {part : Part} (m n : ℕ) (r : ExprRead count t d a is (rule_tokens m n) left part) → Stands count t r.after b [] (closing ∷ onto (tokens r.expr) (rule_tokens m n)) left' → length b.text.now ≤ b.at → d.count ≡ 0 → d.follow ≡ replicate 64 0 → LineRead count t m n b.draft part
+pub line_read : {count left left' : ℕ} {t : List ℕ} {d : Draft} {a b : Reader} {is : List Item} {part : Part} (m n : ℕ) (r : ExprRead count t d a is (rule_tokens m n) left part) → Stands count t r.after b [] (closing ∷ onto (tokens r.expr) (rule_tokens m n)) left' → length b.text.now ≤ b.at → d.symbols.len ≡ 0 → d.follow ≡ replicate 64 0 → LineRead count t m n b.draft part
 line_read {count} {left} {left'} {t} {d} {a} {b} {is} {part} m n r h over c f =
     let whole : length t ≤ b.at = rw h.text_is at over in
     let inside : b.at ≤ length t = rw h.text_is at b.within in

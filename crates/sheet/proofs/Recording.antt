@@ -65,7 +65,7 @@ blank_means = ((tt, (omega arith, (tt, (omega arith, (tt, (tt, (tt, tt))))))), r
 pub blank_written : written blank_line ≡ ascii "(rule 0 0 (none))"
 blank_written = ap (λ w. ascii "(rule " ++ (w ++ (ascii " " ++ (w ++ ascii " (none))")))) (decimal_digit 0 (omega arith))
 
-pub blank_drafted : (d : Draft) → d.count ≡ 0 → d.follow ≡ replicate 64 0 → Drafted blank_line d (record { nullable = true; first = 0; last = 0 })
+pub blank_drafted : (d : Draft) → d.symbols.len ≡ 0 → d.follow ≡ replicate 64 0 → Drafted blank_line d (record { nullable = true; first = 0; last = 0 })
 blank_drafted d c f = drafted 0 0 (added_none d) c f
 
 pub blank_records : (kept : List ℕ) (sets : Sets) → kept ≡ ascii "(rule 0 0 (none))" → SetsOf blank_line sets → Records blank_line kept 0 0 sets

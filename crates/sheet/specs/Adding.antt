@@ -1,21 +1,21 @@
 -- What an expression adds to a draft. Assumes nothing.
-use Rattle.std.specs.Prelude.{◌≡◌, ℕ, ◌+◌, ◌++◌, length, take, bit_or}
+use Rattle.std.specs.Prelude.{◌≡◌, ℕ, ◌+◌, ◌++◌, length, bit_or}
 use Rattle.meaning.specs.Words.{Expr, star, seq, alt, Forms, more}
 use Rattle.meaning.specs.Positions.{symbols, nullable, firstpos, lastpos, followpos}
 use Rattle.positions.specs.declared.draft.Draft.{Draft}
-use Rattle.positions.specs.Masks.{at, Position}
+use Rattle.positions.specs.Masks.{held, at, Position}
 use Rattle.sheet.specs.declared.reader.Join.{Join}
 use Rattle.sheet.specs.declared.reader.Join.TheVariants.{Seq, Alt}
 use Rattle.positions.specs.declared.part.Part.{Part}
 
 -- `after` is `before` with the expression e behind it, and the part has the sets of e
 pub record Added (e : Expr) (before after : Draft) (part : Part) : Type 0 where
-  pub count_is : after.count ≡ before.count + length (symbols e)
-  pub symbols_are : take after.count after.symbols ≡ take before.count before.symbols ++ symbols e
-  pub follow_is : (p : ℕ) → Position p → at after.follow p ≡ bit_or (at before.follow p) (followpos e before.count p)
+  pub count_is : after.symbols.len ≡ before.symbols.len + length (symbols e)
+  pub symbols_are : held after.symbols ≡ held before.symbols ++ symbols e
+  pub follow_is : (p : ℕ) → Position p → at after.follow p ≡ bit_or (at before.follow p) (followpos e before.symbols.len p)
   pub nullable_is : part.nullable ≡ nullable e
-  pub first_is : part.first ≡ firstpos e before.count
-  pub last_is : part.last ≡ lastpos e before.count
+  pub first_is : part.first ≡ firstpos e before.symbols.len
+  pub last_is : part.last ≡ lastpos e before.symbols.len
 
 -- the forms of a list as one expression
 abbrev pub joins : Join → Forms → Expr

@@ -23,12 +23,10 @@ pub record LineRead (count : ℕ) (t : List ℕ) (opening closing : ℕ) (draft 
   pub closes : closing ≡ line.close_code
   pub drafted : Drafted line draft part
 
--- from its start on, with an empty draft, a text is read as a line, or its first fault is told
-abbrev pub ReadsLine : Reader → Reader → Result (ℕ × ℕ × Part) Refusal → Type 0
-ReadsLine a b r =
-    (count : ℕ) (t : List ℕ) (d : Draft) → Stands count t d a start [] 16 → d.count ≡ 0 → d.follow ≡ replicate 64 0
-    → MatchResult r (λ x. LineRead count t x.0 x.1 b.draft x.2) (Tells count t)
-
 -- a text is a line with nothing wrong, or its first fault is told
 abbrev pub Parses : ℕ → List ℕ → Result Parsed Refusal → Type 0
 Parses count t r = MatchResult r (λ p. LineRead count t p.opening p.closing p.draft p.part) (Tells count t)
+
+-- from its start on, with an empty draft, a text is read as a line, or its first fault is told
+abbrev pub ReadsLine : Reader → Result Parsed Refusal → Type 0
+ReadsLine a r = (count : ℕ) (t : List ℕ) (d : Draft) → Stands count t d a start [] 16 → d.symbols.len ≡ 0 → d.follow ≡ replicate 64 0 → Parses count t r

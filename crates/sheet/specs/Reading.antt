@@ -1,5 +1,5 @@
 -- Where a reader stands in a text, and what its steps make of it. Assumes nothing.
-use Rattle.std.specs.Prelude.{◌≡◌, ℕ, ◌+◌, ◌-◌, ◌<◌, ◌≤◌, ◌⊎◌, List, [], ◌∷◌, ◌++◌, length, take, codes as ascii, Option, Result, slice_index}
+use Rattle.std.specs.Prelude.{◌≡◌, ℕ, ◌+◌, ◌<◌, ◌≤◌, ◌⊎◌, List, [], ◌∷◌, ◌++◌, length, take, codes as ascii, Option, Some, Result, slice_get}
 use Rattle.std.specs.Option as options
 use Rattle.std.specs.Result as results
 use Rattle.positions.specs.declared.draft.Draft.{Draft}
@@ -8,7 +8,7 @@ use Rattle.meaning.specs.declared.Symbol.{Symbol}
 use Rattle.meaning.specs.Words.{Expr, Forms}
 use Rattle.meaning.specs.Text.{Field, action, low, high, Token, fixed, sym_head, number, tokens, list_tokens, occurs, heads, Outside, Fault}
 use Rattle.meaning.specs.TextLaws.{Digit}
-use Rattle.meaning.proofs.Scan.{closing, Stop, blank, stop_byte, stop_token, Item, rest, numeral, digits, form, letter, second, listing, moved, through, behind, scan, onto}
+use Rattle.meaning.proofs.Scan.{closing, Stop, blank, stop_byte, stop_token, Item, rest, numeral, digits, form, letter, second, listing, moved, behind, scan, onto}
 use Rattle.meaning.proofs.Judge.{Fine}
 use Rattle.sheet.specs.declared.reader.Join.{Join}
 use Rattle.positions.specs.declared.part.Part.{Part}
@@ -17,13 +17,18 @@ use Rattle.sheet.specs.declared.refusal.Refusal.{Refusal}
 use Rattle.sheet.specs.Adding.{Added, joins}
 use Rattle.sheet.specs.Refusals.{reported}
 
--- the byte that comes next, and 0 behind the last one
-abbrev pub byte : Reader → ℕ
-byte a = slice_index a.text.now a.at
+-- the byte that comes next, if one is left
+abbrev pub upcoming : Reader → Option ℕ
+upcoming a = slice_get a.text.now a.at
 
 -- a byte is left
 abbrev pub Left : Reader → Type 0
 Left a = a.at < length a.text.now
+
+-- b reads the same text as a, and does not stand before it
+pub record Onward (a b : Reader) : Type 0 where
+  pub text_is : b.text.now ≡ a.text.now
+  pub on : a.at ≤ b.at
 
 -- b has read one byte more than a, and is as a otherwise
 pub record Passed (a b : Reader) : Type 0 where
@@ -49,29 +54,35 @@ Tells count t f = (n : ℕ) × (k : ℕ) × Fault count t n k × (reported f ≡
 abbrev pub Leaves : ℕ → ℕ → ℕ → Type 0
 Leaves c left left' = left + occurs 41 (c ∷ []) ≡ left' + occurs 40 (c ∷ [])
 
--- the byte c of a word is read, or the fault is told
-abbrev pub Expects : {A : Type 0} → Reader → Reader → ℕ → Result A Refusal → Type 0
-Expects a b c r =
-    (count : ℕ) (t : List ℕ) (d : Draft) (bs word : List ℕ) (is js : List Item) (ts us : List Token) (left left' : ℕ)
-    → Stands count t d a (rest c bs (fixed word) ∷ is) ts left → through bs (fixed word) is ≡ moved js us → Leaves c left left'
-    → results.MatchResult r (λ _. Stands count t d b js (us ++ ts) left') (Tells count t)
+-- as `Stands`, where the bytes `left_of` of the fixed bytes `word` are to come before `is`
+abbrev pub Awaits : ℕ → List ℕ → Draft → Reader → (left_of word : List ℕ) → List Item → List Token → ℕ → Type 0
+Awaits count t d a [] word is ts left = Stands count t d a is (fixed word ∷ ts) left
+Awaits count t d a (c ∷ bs) word is ts left = Stands count t d a (rest c bs (fixed word) ∷ is) ts left
 
--- the head of a line is read, or the fault is told
-abbrev pub ReadsRule : {A : Type 0} → Reader → Reader → Result A Refusal → Type 0
-ReadsRule a b r =
-    (count : ℕ) (t : List ℕ) (d : Draft) (is : List Item) (ts : List Token)
-    → Stands count t d a (rest 40 (ascii "rule ") (fixed (ascii "(rule ")) ∷ is) ts 16
-    → results.MatchResult r (λ _. Stands count t d b is (fixed (ascii "(rule ") ∷ ts) 15) (Tells count t)
+-- the bytes bs leave left' of `left` brackets to open: `room` besides those in bs
+abbrev pub LeavesAll : List ℕ → (room left left' : ℕ) → Type 0
+LeavesAll bs room left left' = (left ≡ occurs 40 bs + room) × (left' ≡ occurs 41 bs + room)
+
+-- the bytes bs that end a word are read, or the fault is told
+abbrev pub ReadsWord : {A : Type 0} → Reader → Reader → List ℕ → Result A Refusal → Type 0
+ReadsWord a b bs r =
+    (count : ℕ) (t : List ℕ) (d : Draft) (word : List ℕ) (is : List Item) (ts : List Token) (room left left' : ℕ)
+    → Awaits count t d a bs word is ts left → LeavesAll bs room left left'
+    → results.MatchResult r (λ _. Stands count t d b is (fixed word ∷ ts) left') (Tells count t)
+
+-- the byte c comes next, and is a digit
+abbrev pub NextDigit : Reader → ℕ → Type 0
+NextDigit a c = (upcoming a ≡ Some c) × Digit c
 
 -- a digit is read, or none comes next
 abbrev pub DigitsOne : Reader → Reader → Option ℕ → Type 0
-DigitsOne a b r = options.MatchOption r ((Digit (byte a) → ⊥) × (b ≡ a)) (λ d. Digit (byte a) × (d ≡ byte a - 48) × Passed a b)
+DigitsOne a b r = options.MatchOption r (((c : ℕ) → NextDigit a c → ⊥) × (b ≡ a)) (λ d. NextDigit a (d + 48) × Passed a b)
 
 -- the digits of a number are read, as many as it may have
 pub record DigitsRead (count : ℕ) (t : List ℕ) (d : Draft) (b : Reader) (f : Field) (s : Stop) (is : List Item) (ts : List Token) (left value : ℕ) : Type 0 where
   pub room : ℕ
   pub stands : Stands count t d b (digits f s room value ∷ is) ts left
-  pub ends : 0 < room → Digit (byte b) → ⊥
+  pub ends : 0 < room → (c : ℕ) → NextDigit b c → ⊥
 
 -- the digits of a number are read, or the fault is told
 abbrev pub ReadsDigits : Reader → Reader → Result ℕ Refusal → Type 0
@@ -114,14 +125,14 @@ pub record ExprRead (count : ℕ) (t : List ℕ) (d : Draft) (b : Reader) (is : 
   pub expr : Expr
   pub after : Draft
   pub stands : Stands count t after b is (onto (tokens expr) ts) left
-  pub heads_are : heads (onto (tokens expr) ts) ≡ after.count
+  pub heads_are : heads (onto (tokens expr) ts) ≡ after.symbols.len
   pub added : Added expr d after part
 
 -- the rest `front` of an expression is read, or the fault is told
 abbrev pub ReadsExpr : List Item → Reader → Reader → (left left' : ℕ) → Result Part Refusal → Type 0
 ReadsExpr front a b left left' r =
     (count : ℕ) (t : List ℕ) (d : Draft) (is : List Item) (ts : List Token)
-    → Stands count t d a (front ++ is) ts left → heads ts ≡ d.count
+    → Stands count t d a (front ++ is) ts left → heads ts ≡ d.symbols.len
     → results.MatchResult r (λ part. ExprRead count t d b is ts left' part) (Tells count t)
 
 -- a form is read
@@ -153,12 +164,12 @@ pub record ListRead (join : Join) (count : ℕ) (t : List ℕ) (d : Draft) (b : 
   pub list : Forms
   pub after : Draft
   pub stands : Stands count t after b is (closing ∷ onto (list_tokens list) ts) left
-  pub heads_are : heads (onto (list_tokens list) ts) ≡ after.count
+  pub heads_are : heads (onto (list_tokens list) ts) ≡ after.symbols.len
   pub added : Added (joins join list) d after part
 
 -- the forms of a list are read, or the fault is told
 abbrev pub ReadsList : Join → Reader → Reader → ℕ → Result Part Refusal → Type 0
 ReadsList join a b left r =
     (count : ℕ) (t : List ℕ) (d : Draft) (is : List Item) (ts : List Token)
-    → Stands count t d a (form ∷ listing ∷ is) ts left → heads ts ≡ d.count
+    → Stands count t d a (form ∷ listing ∷ is) ts left → heads ts ≡ d.symbols.len
     → results.MatchResult r (λ part. ListRead join count t d b is ts (left + 1) part) (Tells count t)

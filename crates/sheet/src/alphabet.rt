@@ -9,36 +9,29 @@ use positions::MOST_LINES;
 pub trait Alphabet: Copy {
     const COUNT: usize;
 
-    ghost count: { ℕ };
+    ghost COUNT: { ℕ };
 
     ghost classed: { Self → ℕ };
 
-    fn classes() -> usize
-        ensures { result ≡ count };
-
     fn class(&self) -> usize
         ensures value { result ≡ classed self.now }
-        ensures below { result < count };
+        ensures below { result < COUNT };
 
-    ghost counted: { Counted count };
+    ghost counted: { Counted COUNT };
 }
 
 // Bytes: each is its own class.
 impl Alphabet for u8 {
     const COUNT: usize = 256;
 
-    ghost count = { 256 };
+    ghost COUNT = { 256 };
 
     ghost classed = { byte_class };
 
     ghost counted = { Prim.search rules };
 
-    fn classes() -> usize {
-        Self::COUNT
-    }
-
     fn class(&self) -> usize {
-        *self as usize
+        usize::from(*self)
     }
 }
 
@@ -46,21 +39,13 @@ impl Alphabet for u8 {
 impl Alphabet for Piece {
     const COUNT: usize = 9;
 
-    ghost count = { 9 };
+    ghost COUNT = { 9 };
 
     ghost classed = { piece_class };
 
     ghost counted = { Prim.search rules };
 
-    fn classes() -> usize {
-        Self::COUNT
-    }
-
     fn class(&self) -> usize {
-        if self.line < MOST_LINES {
-            self.line
-        } else {
-            MOST_LINES
-        }
+        self.line.min(MOST_LINES)
     }
 }

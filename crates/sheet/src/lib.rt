@@ -3,8 +3,6 @@
 
 mod alphabet;
 mod entry;
-mod line;
-mod parse;
 mod parts;
 mod reader;
 mod refusal;

@@ -24,25 +24,26 @@ pub enum Refusal {
 }
 
 impl Refusal {
+    // Stays: number and layer are what users and programs are told (docs/REFUSALS.md), and no derive gives them, since cases carry details.
     pub fn number(&self) -> u8
         ensures { result ≡ (reported self.now).number }
     {
         match self {
-            Refusal::LineSize => 1,
-            Refusal::BadForm { .. } => 2,
-            Refusal::TooDeep { .. } => 3,
-            Refusal::OutOfRange { .. } => 4,
-            Refusal::TooManySymbols { .. } => 5,
-            Refusal::Clash { .. } => 6,
-            Refusal::TooLittleMemory => 7,
-            Refusal::ExtentTooLong => 8,
-            Refusal::NoSuchLine => 9,
-            Refusal::TooFewCodeCells => 10,
-            Refusal::EightLines => 21,
-            Refusal::NoLine => 22,
-            Refusal::TooManyStates => 23,
-            Refusal::NotBuilt => 24,
-            Refusal::NotOpen => 25,
+            Self::LineSize => 1,
+            Self::BadForm { .. } => 2,
+            Self::TooDeep { .. } => 3,
+            Self::OutOfRange { .. } => 4,
+            Self::TooManySymbols { .. } => 5,
+            Self::Clash { .. } => 6,
+            Self::TooLittleMemory => 7,
+            Self::ExtentTooLong => 8,
+            Self::NoSuchLine => 9,
+            Self::TooFewCodeCells => 10,
+            Self::EightLines => 21,
+            Self::NoLine => 22,
+            Self::TooManyStates => 23,
+            Self::NotBuilt => 24,
+            Self::NotOpen => 25,
         }
     }
 
@@ -51,13 +52,13 @@ impl Refusal {
         ensures { result ≡ (reported self.now).layer }
     {
         match self {
-            Refusal::LineSize
-            | Refusal::BadForm { .. }
-            | Refusal::TooDeep { .. }
-            | Refusal::OutOfRange { .. }
-            | Refusal::TooManySymbols { .. } => 1,
-            Refusal::Clash { .. } => 2,
-            Refusal::ExtentTooLong | Refusal::NoSuchLine | Refusal::TooFewCodeCells => 4,
+            Self::LineSize
+            | Self::BadForm { .. }
+            | Self::TooDeep { .. }
+            | Self::OutOfRange { .. }
+            | Self::TooManySymbols { .. } => 1,
+            Self::Clash { .. } => 2,
+            Self::ExtentTooLong | Self::NoSuchLine | Self::TooFewCodeCells => 4,
             _ => 3,
         }
     }
@@ -67,11 +68,11 @@ impl Refusal {
         ensures second { result.1 ≡ (reported self.now).two }
     {
         match *self {
-            Refusal::BadForm { byte }
-            | Refusal::TooDeep { byte }
-            | Refusal::OutOfRange { byte }
-            | Refusal::TooManySymbols { byte } => (byte, 0),
-            Refusal::Clash { p, q } => (p, q),
+            Self::BadForm { byte }
+            | Self::TooDeep { byte }
+            | Self::OutOfRange { byte }
+            | Self::TooManySymbols { byte } => (byte, 0),
+            Self::Clash { p, q } => (p, q),
             _ => (0, 0),
         }
     }

@@ -17,8 +17,8 @@ returns-in_err-parsed g c =
     let p = err_from_is_err_and c.from_residual.result c.from_residual.ensures.1 in
     let f = c.in_err-parsed.field-0.0 in
     rw (p.1, p.2)
-    (subst (λ n. TextRefused n c.args.text.now (reported f)) c.classes.ensures
-    (refused_fault c.classes.result c.args.text.now (not_empty c.is_empty.result _ c.is_empty.ensures c.if-is_empty.false) c.if-text-gt-MOST_BYTES.false f c.in_err-parsed.ensures))
+    (subst (λ n. TextRefused n c.args.text.now (reported f)) c.COUNT.ensures
+    (refused_fault c.COUNT.result c.args.text.now (not_empty c.is_empty.result _ c.is_empty.ensures c.if-is_empty.false) c.if-text-gt-MOST_BYTES.false f c.in_err-parsed.ensures))
 
 pub invariant_of-result : goal.invariant_of-result
 invariant_of-result g c =
@@ -27,21 +27,21 @@ invariant_of-result g c =
     record {
       some = not_empty c.is_empty.result _ c.is_empty.ensures c.if-is_empty.false;
       short = c.if-text-gt-MOST_BYTES.false;
-      is = ∣ (r.line, records c.classes.result c.args.text.now _ c.new-sets.result r c.copied.ensures s (c.in-None.ensures r.line s)) ∣₁;
+      is = ∣ (r.line, records c.COUNT.result c.args.text.now _ c.new-sets.result r c.copied.ensures s (c.in_default.ensures r.line s)) ∣₁;
     }
 
 pub returns-in-Some : goal.returns-in-Some
 returns-in-Some g c =
     let r = c.in_ok-parsed.ensures in
     let s = c.new-sets.ensures r.line r.drafted in
-    subst (λ n. TextRefused n c.args.text.now (record { number = 6; layer = 2; one = c.in-Some.p; two = c.in-Some.q })) c.classes.ensures
-    (refused_clash c.classes.result c.args.text.now (not_empty c.is_empty.result _ c.is_empty.ensures c.if-is_empty.false) c.if-text-gt-MOST_BYTES.false r c.in-Some.p c.in-Some.q (c.in-Some.ensures r.line s))
+    subst (λ n. TextRefused n c.args.text.now (record { number = 6; layer = 2; one = c.in-Some.p; two = c.in-Some.q })) c.COUNT.ensures
+    (refused_clash c.COUNT.result c.args.text.now (not_empty c.is_empty.result _ c.is_empty.ensures c.if-is_empty.false) c.if-text-gt-MOST_BYTES.false r c.in-Some.p c.in-Some.q (c.in-Some.ensures r.line s))
 
-pub returns-in-None : goal.returns-in-None
-returns-in-None g c =
+pub returns : goal.returns
+returns g c =
     let r = c.in_ok-parsed.ensures in
     let s = c.new-sets.ensures r.line r.drafted in (
       c.copied.ensures,
-      subst (λ n. TextAccepted n c.args.text.now) c.classes.ensures
-          (accepted c.classes.result c.args.text.now (not_empty c.is_empty.result _ c.is_empty.ensures c.if-is_empty.false) c.if-text-gt-MOST_BYTES.false r (c.in-None.ensures r.line s)),
+      subst (λ n. TextAccepted n c.args.text.now) c.COUNT.ensures
+          (accepted c.COUNT.result c.args.text.now (not_empty c.is_empty.result _ c.is_empty.ensures c.if-is_empty.false) c.if-text-gt-MOST_BYTES.false r (c.in_default.ensures r.line s)),
     )
