@@ -1,34 +1,26 @@
 -- The table as it is filled, state by state and class by class. Assumes nothing.
-use Rattle.std.proofs.Common.{◌≡◌, ℕ, zero, ◌+◌, ◌*◌, ◌<◌, ◌≤◌, ◌≢◌, ◌⊎◌, List, [], ◌∷◌, ◌++◌, length, get_or, drop, set, replicate, Some, sym, refl, ap, ◌∙◌, subst, inl, inr, add-mul, arith, get_or-set_other, get_or-set_same}
+use Rattle.std.proofs.Common.{◌≡◌, ℕ, ◌+◌, ◌*◌, ◌<◌, ◌≤◌, ◌≢◌, ◌⊎◌, List, [], ◌∷◌, ◌++◌, length, get_or, set, Some, sym, refl, ap, ◌∙◌, subst, inl, inr, arith, get_or-set_other, get_or-set_same}
 use mathlib.Core.Logic.{⊎_map}
-use lib.ListN.{length-replicate}
 use Rattle.std.proofs.lemmas.Nat.{mul-add-lt}
-use Rattle.std.proofs.lemmas.List.{get_or_append_left, get_or_push, get_or-replicate, length_push}
+use Rattle.std.proofs.lemmas.List.{get_or_append_left, get_or_push, length_push}
 use Rattle.std.proofs.lemmas.Bool.{cases_lt}
 use Rattle.meaning.specs.Words.{Line}
-use Rattle.meaning.specs.States.{State, start, step, nowhere, Among, Before, Met, Numbers, States, MoreThan64, LeadsTo}
-use Rattle.meaning.specs.Runs.{cleared}
+use Rattle.meaning.specs.States.{State, step, nowhere, Among, Before, Met, Numbers, States, MoreThan64, LeadsTo}
 use Rattle.plate.specs.Filling.{Filling, Numbered}
 
 -- one state more
-front_same : (all : List State) (x : State) (i : ℕ) → i < length all → get_or (all ++ x ∷ []) i nowhere ≡ get_or all i nowhere
-front_same all x i h = get_or_append_left all (x ∷ []) nowhere i h
-
-last_is : (all : List State) (x : State) → get_or (all ++ x ∷ []) (length all) nowhere ≡ x
-last_is all x = get_or_push all x nowhere (length all) refl
-
 among_more : (all : List State) (x s : State) (n : ℕ) → n ≤ length all → Among all n s → Among (all ++ x ∷ []) n s
-among_more all x s n h (i, k, e) = (i, k, front_same all x i (omega arith) ∙ e)
+among_more all x s n h (i, k, e) = (i, k, get_or_append_left all (x ∷ []) nowhere i (omega arith) ∙ e)
 
 among_less : (all : List State) (x s : State) (n : ℕ) → n ≤ length all → Among (all ++ x ∷ []) n s → Among all n s
-among_less all x s n h (i, k, e) = (i, k, sym (front_same all x i (omega arith)) ∙ e)
+among_less all x s n h (i, k, e) = (i, k, sym (get_or_append_left all (x ∷ []) nowhere i (omega arith)) ∙ e)
 
 -- a state keeps its number
 pub numbered_keeps : (all : List State) (x : State) (t : ℕ) (after : List State) → Numbered all x (Some t) after → (s : ℕ) → s < length all
     → (s < length after) × (get_or after s nowhere ≡ get_or all s nowhere)
 numbered_keeps all x t after n s h = elim n [
   | inl (k, e, same) ↦ (omega (arith, ap length same), ap (λ xs. get_or xs s nowhere) same)
-  | inr (e, fresh, same) ↦ (omega (arith, ap length same, length_push all x), ap (λ xs. get_or xs s nowhere) same ∙ front_same all x s h)
+  | inr (e, fresh, same) ↦ (omega (arith, ap length same, length_push all x), ap (λ xs. get_or xs s nowhere) same ∙ get_or_append_left all (x ∷ []) nowhere s h)
 ]
 
 -- what is at or before (s, c)
@@ -61,26 +53,26 @@ module _ (count : ℕ) (ls : List Line) where
 
   leads_more : (all : List State) (x : State) (i d cell : ℕ) → i < length all → LeadsTo ls all i d cell → LeadsTo ls (all ++ x ∷ []) i d cell
   leads_more all x i d cell o h = elim h [
-    | inl (e, f) ↦ inl (e, ap (step ls d) (front_same all x i o) ∙ f)
-    | inr (t, e, k, f) ↦ inr (t, e, omega (arith, length_push all x), ap (step ls d) (front_same all x i o) ∙ f ∙ sym (front_same all x t k))
+    | inl (e, f) ↦ inl (e, ap (step ls d) (get_or_append_left all (x ∷ []) nowhere i o) ∙ f)
+    | inr (t, e, k, f) ↦ inr (t, e, omega (arith, length_push all x), ap (step ls d) (get_or_append_left all (x ∷ []) nowhere i o) ∙ f ∙ sym (get_or_append_left all (x ∷ []) nowhere t k))
   ]
 
   module _ (all : List State) (x : State) where
     known_more : (n i c : ℕ) → n ≤ length all → i < length all → Known all n (step ls c (get_or all i nowhere)) → Known (all ++ x ∷ []) n (step ls c (get_or (all ++ x ∷ []) i nowhere))
     known_more n i c h k w =
-        subst (λ y. Known (all ++ x ∷ []) n (step ls c y)) (sym (front_same all x i k))
+        subst (λ y. Known (all ++ x ∷ []) n (step ls c y)) (sym (get_or_append_left all (x ∷ []) nowhere i k))
         (⊎_map (λ e. e) (among_more all x (step ls c (get_or all i nowhere)) n h) w)
 
     met_more : (j : ℕ) → j < length all → Met count ls all j → Met count ls (all ++ x ∷ []) j
     met_more j h m =
-        let e = front_same all x j h in
+        let e = get_or_append_left all (x ∷ []) nowhere j h in
         let k : m.«from» < length all = omega (arith, m.earlier) in
         record {
           «from» = m.«from»;
           class = m.class;
           earlier = m.earlier;
           in_alphabet = m.in_alphabet;
-          leads = ap (step ls m.class) (front_same all x m.«from» k) ∙ m.leads ∙ sym e;
+          leads = ap (step ls m.class) (get_or_append_left all (x ∷ []) nowhere m.«from» k) ∙ m.leads ∙ sym e;
           fresh = λ a. m.fresh (among_less all x (get_or all j nowhere) j (omega arith) (subst (Among (all ++ x ∷ []) j) e a));
           some = λ z. m.some (sym e ∙ z);
           first = λ i c o b. known_more j i c (omega arith) (omega arith) (m.first i c o b);
@@ -89,20 +81,22 @@ module _ (count : ℕ) (ls : List Line) where
     -- the state that a move meets
     module _ (s c : ℕ) (below : s < length all) (in_alphabet : c < count) (leads : step ls c (get_or all s nowhere) ≡ x) (fresh : Among all (length all) x → ⊥) (some : x ≡ nowhere → ⊥) (known : (i d : ℕ) → d < count → Before i d s c → Known all (length all) (step ls d (get_or all i nowhere))) where
       new_met : Met count ls (all ++ x ∷ []) (length all)
-      new_met = record {
-        «from» = s;
-        class = c;
-        earlier = below;
-        in_alphabet = in_alphabet;
-        leads = ap (step ls c) (front_same all x s below) ∙ leads ∙ sym (last_is all x);
-        fresh = λ a. fresh (among_less all x x (length all) (omega arith) (subst (Among (all ++ x ∷ []) (length all)) (last_is all x) a));
-        some = λ z. some (sym (last_is all x) ∙ z);
-        first = λ i d o b. known_more (length all) i d (omega arith) (omega arith) (known i d o b);
-      }
+      new_met =
+          let last = get_or_push all x nowhere (length all) refl in
+          record {
+            «from» = s;
+            class = c;
+            earlier = below;
+            in_alphabet = in_alphabet;
+            leads = ap (step ls c) (get_or_append_left all (x ∷ []) nowhere s below) ∙ leads ∙ sym last;
+            fresh = λ a. fresh (among_less all x x (length all) (omega arith) (subst (Among (all ++ x ∷ []) (length all)) last a));
+            some = λ z. some (sym last ∙ z);
+            first = λ i d o b. known_more (length all) i d (omega arith) (omega arith) (known i d o b);
+          }
 
       numbers_more : Numbers count ls all → Numbers count ls (all ++ x ∷ [])
       numbers_more a = record {
-        starts = (omega (arith, length_push all x), front_same all x 0 a.starts.0 ∙ a.starts.1);
+        starts = (omega (arith, length_push all x), get_or_append_left all (x ∷ []) nowhere 0 a.starts.0 ∙ a.starts.1);
         met = λ j h k. elim (cases_lt j (length all)) [
           | inl o ↦ met_more j o (a.met j h o)
           | inr o ↦
@@ -110,17 +104,6 @@ module _ (count : ℕ) (ls : List Line) where
               subst (Met count ls (all ++ x ∷ [])) same new_met
         ];
       }
-
-  -- before the first move
-  pub filling_none : (all : List State) (moves : List ℕ) → all ≡ start ls ∷ [] → Filling count ls all (cleared moves (64 * count)) 0 0
-  filling_none all moves e = subst (λ xs. Filling count ls xs (cleared moves (64 * count)) 0 0) (sym e) (record {
-    numbers = record { starts = (omega arith, refl); met = λ j h k. absurd (omega arith) };
-    within = inl (omega arith);
-    cells = λ i d k b. absurd (omega arith);
-    others = λ i h k.
-        get_or_append_left (replicate (64 * count) zero) (drop (64 * count) moves) 0 i (omega (arith, length-replicate (64 * count) zero))
-        ∙ get_or-replicate (64 * count) i zero zero k;
-  })
 
   module _ (all : List State) (moves : List ℕ) (s c : ℕ) (f : Filling count ls all moves s c) (below : s < length all) (in_alphabet : c < count) where
     known_before : (i d : ℕ) → d < count → Before i d s c → Known all (length all) (step ls d (get_or all i nowhere))
@@ -194,25 +177,10 @@ module _ (count : ℕ) (ls : List Line) where
         subst (λ xs. Filling count ls xs (set moves (s * count + c) (t + 1)) s (c + 1)) (sym same)
         (filling_known (all ++ x ∷ []) moves s c (filling_more all moves s c f below in_alphabet x leads fresh some) (omega (arith, length_push all x)) in_alphabet t fits
         (omega (arith, length_push all x))
-        (ap (λ j. get_or (all ++ x ∷ []) j nowhere) e ∙ last_is all x ∙ leads ∙ ap (step ls c) (sym (front_same all x s below))))
+        (ap (λ j. get_or (all ++ x ∷ []) j nowhere) e ∙ get_or_push all x nowhere (length all) refl ∙ leads ∙ ap (step ls c) (sym (get_or_append_left all (x ∷ []) nowhere s below))))
   ]
 
   module _ (all : List State) (moves : List ℕ) where
-    -- the last class of a state
-    pub filling_row : (s : ℕ) → s < length all → Filling count ls all moves s count → Filling count ls all moves (s + 1) 0
-    filling_row s h f = record {
-      numbers = f.numbers;
-      within = elim (cases_lt (s + 1) (length all)) [
-        | inl o ↦ inl o
-        | inr o ↦ inr (omega arith, refl)
-      ];
-      cells = λ i d k b. f.cells i d k (elim (cases_lt i s) [
-        | inl o ↦ inl o
-        | inr o ↦ inr (omega arith, k)
-      ]);
-      others = λ i o k. f.others i (omega (arith, add-mul s 1 count)) k;
-    }
-
     -- the last state
     pub filled_states : Filling count ls all moves (length all) 0 → States count ls all
     filled_states f = record {

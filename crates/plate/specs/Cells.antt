@@ -3,6 +3,7 @@ use Rattle.std.specs.Prelude.{◌≡◌, ℕ, zero, suc, ◌<◌, ◌≤◌, tru
 use Rattle.sheet.specs.declared.refusal.Refusal.{Refusal}
 use Rattle.sheet.specs.declared.refusal.Refusal.TheVariants.{NotOpen, NotBuilt, ExtentTooLong}
 use Rattle.plate.specs.declared.desk.Desk.{Desk}
+use Rattle.plate.specs.Desks.{is_built}
 
 -- as many cells as before, and those from `used` on as they were
 abbrev pub Beyond : (used : ℕ) → (before after : List ℕ) → Type 0
@@ -24,5 +25,5 @@ reached (suc t) = Some t
 -- why a call of the count `count` on an extent of `len` symbols is refused
 pub data Unready (count : ℕ) (d : Desk) (len : ℕ) : Refusal → Type 0 where
   away : (d.count ≢ count) → Unready count d len NotOpen
-  unbuilt : d.count ≡ count → d.built ≡ false → Unready count d len NotBuilt
-  long : d.count ≡ count → d.built ≡ true → 32768 < len → Unready count d len ExtentTooLong
+  unbuilt : d.count ≡ count → is_built d ≡ false → Unready count d len NotBuilt
+  long : d.count ≡ count → is_built d ≡ true → 32768 < len → Unready count d len ExtentTooLong

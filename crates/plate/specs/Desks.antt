@@ -1,5 +1,6 @@
 -- What a plate's desk stands for: the account of its calls. Assumes nothing.
-use Rattle.std.specs.Prelude.{ℕ, List, map, take, Ok, Err, Result}
+use Rattle.std.specs.Prelude.{ℕ, Bool, List, [], map, take, Option, Ok, Err, Result, is_some}
+use Rattle.std.specs.Option.{unwrap_or}
 use Rattle.meaning.specs.Doers.{Given}
 use Rattle.meaning.specs.Runs.{Account, Answer, refused, numbered}
 use Rattle.sheet.specs.declared.refusal.Refusal.{Refusal}
@@ -11,9 +12,17 @@ use Rattle.plate.specs.declared.desk.Desk.{Desk}
 abbrev pub texts_of : Desk → List (List ℕ)
 texts_of d = map text_of (take d.standing d.entries)
 
+-- whether the plate is built
+abbrev pub is_built : Desk → Bool
+is_built d = is_some d.accepts
+
+-- for each state of a built plate, the line that is taken there; none at all where the plate is not built
+abbrev pub accepts_of : Desk → List (Option ℕ)
+accepts_of d = unwrap_or d.accepts []
+
 -- what is known of a plate with these cells, whose doer was given `history`
 abbrev pub account_of : Desk → (moves sets : List ℕ) → (history : List Given) → Account
-account_of d moves sets history = record { texts = texts_of d; built = d.built; history = history; moves = moves; sets = sets }
+account_of d moves sets history = record { texts = texts_of d; built = is_built d; history = history; moves = moves; sets = sets }
 
 -- what take, strike and build answer: a number, or a refusal
 abbrev pub answer_of : Result ℕ Refusal → Answer

@@ -1,18 +1,15 @@
 -- A plate's table while it is filled: the states met so far, and the move cells of those that were gone through. Assumes nothing.
-use Rattle.std.specs.Prelude.{◌≡◌, ℕ, ◌+◌, ◌*◌, ◌/◌, ◌%◌, ◌<◌, ◌≤◌, ◌⊎◌, List, [], ◌∷◌, ◌++◌, length, take, Some, None, Option, slice_index, slice_index_or}
+use Rattle.std.specs.Prelude.{◌≡◌, ℕ, ◌+◌, ◌*◌, ◌<◌, ◌≤◌, ◌⊎◌, List, [], ◌∷◌, ◌++◌, length, Some, None, Option, slice_index, slice_index_or}
 use Rattle.meaning.specs.Bounds.{most_states, most_lines}
 use Rattle.meaning.specs.Words.{Line}
 use Rattle.meaning.specs.States.{State, nowhere, Among, Before, Numbers, LeadsTo, MoreThan64}
 use Rattle.meaning.specs.Runs.{Mean}
+use Rattle.plate.specs.Cells.{Beyond}
 use Rattle.plate.specs.declared.numbering.Numbering.{Numbering}
 
 -- the states met so far
 abbrev pub met_of : Numbering → List State
-met_of n = take n.met n.states
-
--- the set of the i-th set cell: eight cells for each state
-abbrev pub set_at : Numbering → ℕ → ℕ
-set_at n i = slice_index (slice_index_or n.states (i / most_lines) nowhere) (i % most_lines)
+met_of n = n.states.items
 
 -- what a state's number is and what it leaves: the number it has, or the next one; none where all numbers are taken
 abbrev pub Numbered : (before : List State) → State → Option ℕ → (after : List State) → Type 0
@@ -29,9 +26,14 @@ pub record Filling (count : ℕ) (ls : List Line) (all : List State) (moves : Li
   pub others : (i : ℕ) → s * count + c ≤ i → i < most_states * count → slice_index moves i ≡ 0
 
 -- so it is for the lines that the texts write
-abbrev pub Filled : (count : ℕ) → (texts : List (List ℕ)) → Numbering → (moves : List ℕ) → (s c : ℕ) → Type 0
-Filled count texts n moves s c = (ls : List Line) → Mean texts ls → 0 < length ls → Filling count ls (met_of n) moves s c
+abbrev pub Filled : (count : ℕ) → (texts : List (List ℕ)) → (all : List State) → (moves : List ℕ) → (s c : ℕ) → Type 0
+Filled count texts all moves s c = (ls : List Line) → Mean texts ls → 0 < length ls → Filling count ls all moves s c
 
 -- the lines that the texts write have more states than a plate has numbers for
 abbrev pub TooMany : (count : ℕ) → (texts : List (List ℕ)) → Type 0
 TooMany count texts = (ls : List Line) → Mean texts ls → 0 < length ls → MoreThan64 count ls
+
+-- the set cells hold the sets of the first n states, eight cells for each, and those behind them what they held
+pub record Laid (all : List State) (n : ℕ) (before after : List ℕ) : Type 0 where
+  pub cells : (s k : ℕ) → s < n → k < most_lines → slice_index after (s * most_lines + k) ≡ slice_index (slice_index_or all s nowhere) k
+  pub beyond : Beyond (n * most_lines) before after

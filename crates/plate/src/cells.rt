@@ -1,12 +1,17 @@
 // Cells of lent memory.
-ghost use Rattle.std.specs.Prelude.{◌≡◌, ◌≤◌, ◌++◌, length, drop, replicate};
+ghost use Rattle.std.specs.Prelude.{◌≡◌, ◌*◌, ◌≤◌, length};
+ghost use Rattle.meaning.specs.Runs.{cleared};
 
-// Makes the first `used` cells `zero`.
-pub(crate) fn clear<T: Copy>(cells: &mut [T], used: usize, zero: T)
-    requires { used ≤ length cells.old }
-    ensures { cells.new ≡ replicate used zero ++ drop used cells.old }
+use positions::{MOST_LINES, MOST_STATES};
+
+// Sets the cells that a plate uses to 0.
+// Stays: two slices and no struct of both, which would be made and taken apart at each call, with a clause that its references are the same; so these two bounds stand here and in fill.rt.
+pub(crate) fn clear(moves: &mut [u16], sets: &mut [u64], count: usize)
+    requires moves { 64 * count ≤ length moves.old }
+    requires sets { 512 ≤ length sets.old }
+    ensures moves { moves.new ≡ cleared moves.old (64 * count) }
+    ensures sets { sets.new ≡ cleared sets.old 512 }
 {
-    for i in 0..used {
-        cells[i] = zero;
-    }
+    moves[..MOST_STATES * count].fill(0);
+    sets[..MOST_STATES * MOST_LINES].fill(0);
 }

@@ -1,19 +1,25 @@
 // The plain inner part of a plate: its table of line records and what was made of them.
-ghost use Rattle.std.specs.Prelude.{◌≡◌, length};
+ghost use Rattle.std.specs.Prelude.{◌≡◌, ◌≤◌, length};
 
 use positions::{MOST_LINES, MOST_STATES};
 use sheet::Entry;
 
+// For each state of a built plate, the earliest line that has a word there.
+pub type Accepts = [Option<usize>; MOST_STATES];
+
 #[derive(Clone, Copy)]
 pub struct Desk {
+    // the records of the standing lines, in the order taken, and behind them those that were struck or blank
+    // Stays: an array with its count. A plate's lines are a table of records of fixed size in its plain inner struct, which is copied whole; an `ArrayVec` cannot be.
     pub entries: [Entry; MOST_LINES],
     // how many of them stand
     pub standing: usize,
     // the count of the alphabet that the plate was opened for, 0 on a shut plate
+    // Stays: a shut plate has no class, so one comparison refuses it as it does any other count, and the bounds on cells need no case.
     pub count: usize,
-    pub built: bool,
-    // for each state, the earliest line that has a word there
-    pub accepts: [Option<usize>; MOST_STATES],
+    // none where the plate is not built
+    pub accepts: Option<Accepts>,
+    ghost few: { standing ≤ 8 },
+    ghost counted: { count ≤ 256 },
     ghost full: { length entries ≡ 8 },
-    ghost numbered: { length accepts ≡ 64 },
 }

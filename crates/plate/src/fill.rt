@@ -1,110 +1,105 @@
 // Filling the table of a plate.
-ghost use Rattle.std.specs.Prelude.{◌≡◌, ℕ, ◌+◌, ◌*◌, ◌<◌, ◌≤◌, true, false, List, length, None, slice_index_or};
+ghost use Rattle.std.specs.Prelude.{◌≡◌, ℕ, ◌+◌, ◌*◌, ◌<◌, ◌≤◌, List, length, None, MatchOption, IfOk, IfErr, slice_index, slice_index_or};
 ghost use Rattle.meaning.specs.Words.{Line};
 ghost use Rattle.meaning.specs.States.{nowhere};
 ghost use Rattle.meaning.specs.Runs.{Mean, cleared};
 ghost use Rattle.plate.specs.Desks.{texts_of};
-ghost use Rattle.plate.specs.Cells.{Beyond, SameLines, Turned};
-ghost use Rattle.plate.specs.Tables.{Earliest};
-ghost use Rattle.plate.specs.Filling.{set_at, Filled, TooMany};
+ghost use Rattle.plate.specs.Cells.{Beyond};
+ghost use Rattle.plate.specs.Tables.{BuiltTable, Earliest};
+ghost use Rattle.plate.specs.Filling.{met_of, Filled, Laid, TooMany};
 
-use crate::desk::Desk;
+use crate::cells::clear;
+use crate::desk::{Accepts, Desk};
 use crate::numbering::{NOWHERE, Numbering};
-use crate::open::Plate;
 use positions::{MOST_LINES, MOST_STATES};
+use sheet::Refusal;
 
 impl Desk {
     // For each state that has a number, the line that is taken there.
-    pub(crate) fn fill_accepts(&mut self, numbering: &Numbering)
-        requires { self.old.standing ≤ 8 }
-        ensures lines { SameLines self.old self.new }
-        ensures built { self.new.built ≡ self.old.built }
-        ensures accepts { (ls : List Line) → Mean (texts_of self.old) ls → (s : ℕ) → s < numbering.now.met → Earliest ls (slice_index_or numbering.now.states s nowhere) (slice_index_or self.new.accepts s None) }
+    fn accepting_lines(&self, numbering: &Numbering) -> Accepts
+        ensures { (ls : List Line) → Mean (texts_of self.now) ls → (s : ℕ) → s < length (met_of numbering.now) → Earliest ls (slice_index_or (met_of numbering.now) s nowhere) (slice_index_or result s None) }
     {
-        for s in 0..numbering.met {
-            self.accepts[s] = self.accepting(numbering.states[s]);
+        let mut accepts = [None; MOST_STATES];
+        // Stays: written by place, since with `array::from_fn` the proof did not learn what a closure with a `match` answers.
+        for (s, state) in numbering.states.iter().enumerate() {
+            accepts[s] = self.accepting(*state);
         }
+        accepts
+    }
+
+    // The move cells of one state, and numbers for the states that its moves meet; none where these are too many.
+    fn fill_row(&self, moves: &mut [u16], numbering: &mut Numbering, s: usize) -> Option<()>
+        requires room { 64 * self.now.count ≤ length moves.old }
+        requires known { s < length (met_of numbering.old) }
+        requires filled { Filled self.now.count (texts_of self.now) (met_of numbering.old) moves.old s 0 }
+        ensures filled { MatchOption result (TooMany self.now.count (texts_of self.now)) (λ _. Filled self.now.count (texts_of self.now) (met_of numbering.new) moves.new (s + 1) 0) }
+        ensures beyond { Beyond (64 * self.now.count) moves.old moves.new }
+    {
+        let state = numbering.states[s];
+        // Stays: `c` is the class that `step` takes, and not only a place in the row.
+        for c in 0..self.count {
+            let next = self.step(state, c);
+            if next != NOWHERE {
+                let t = numbering.number(next)?;
+                // Stays: `as`, since a state's number is at most 63.
+                moves[s * self.count + c] = (t + 1) as u16;
+            }
+        }
+        Some(())
+    }
+
+    // The states that moves meet from the start, and the move cells of all of them, which are 0 before; none where the states are too many.
+    fn fill_moves(&self, moves: &mut [u16]) -> Option<Numbering>
+        requires room { 64 * self.now.count ≤ length moves.old }
+        requires zero { (i : ℕ) → i < 64 * self.now.count → slice_index moves.old i ≡ 0 }
+        ensures filled { MatchOption result (TooMany self.now.count (texts_of self.now)) (λ n. Filled self.now.count (texts_of self.now) (met_of n) moves.new (length (met_of n)) 0) }
+        ensures beyond { Beyond (64 * self.now.count) moves.old moves.new }
+    {
+        let mut numbering = Numbering::new(self.start());
+        // The states become more while they are gone through, so each turn asks whether there is one.
+        for s in 0..MOST_STATES {
+            if s >= numbering.states.len() {
+                break;
+            }
+            self.fill_row(moves, &mut numbering, s)?;
+        }
+        Some(numbering)
+    }
+
+    // Fills the used cells: the number of states, and for each the line that is taken there. Where the states are too many, the used cells are 0.
+    // Stays: two slices, as in `clear`.
+    pub(crate) fn fill(
+        &self,
+        moves: &mut [u16],
+        sets: &mut [u64],
+    ) -> Result<(usize, Accepts), Refusal>
+        requires some { 1 ≤ self.now.standing }
+        requires moves { 64 * self.now.count ≤ length moves.old }
+        requires sets { 512 ≤ length sets.old }
+        ensures table { IfOk result (λ r. (b : BuiltTable self.now.count (texts_of self.now) moves.new sets.new r.1) × (r.0 ≡ length b.all)) }
+        ensures many { IfErr result (λ f. (f ≡ Refusal.TooManyStates) × TooMany self.now.count (texts_of self.now) × (moves.new ≡ cleared moves.old (64 * self.now.count)) × (sets.new ≡ cleared sets.old 512)) }
+        ensures moves { Beyond (64 * self.now.count) moves.old moves.new }
+        ensures sets { Beyond 512 sets.old sets.new }
+    {
+        clear(moves, sets, self.count);
+        let Some(numbering) = self.fill_moves(moves) else {
+            clear(moves, sets, self.count);
+            return Err(Refusal::TooManyStates);
+        };
+        numbering.fill_sets(sets);
+        Ok((numbering.states.len(), self.accepting_lines(&numbering)))
     }
 }
 
-impl Plate<'_> {
-    // The used cells 0, and the plate not built.
-    pub(crate) fn clear(&mut self)
-        requires { 1 ≤ self.old.desk.count }
-        ensures built { self.new.desk.built ≡ false }
-        ensures lines { SameLines self.old.desk self.new.desk }
-        ensures moves { self.new.moves.now ≡ cleared self.old.moves.now (64 * self.old.desk.count) }
-        ensures sets { self.new.sets.now ≡ cleared self.old.sets.now 512 }
-        ensures names { (self.new.moves.ghost_name ≡ self.old.moves.ghost_name) × (self.new.sets.ghost_name ≡ self.old.sets.ghost_name) }
-    {
-        self.desk.built = false;
-        for i in 0..MOST_STATES * self.desk.count {
-            self.moves[i] = 0;
-        }
-        for j in 0..MOST_STATES * MOST_LINES {
-            self.sets[j] = 0;
-        }
-    }
-
-    // The move cells of one state, and numbers for the states that its moves meet; false where there are too many.
-    fn fill_row(&mut self, numbering: &mut Numbering, s: usize) -> bool
-        requires unbuilt { self.old.desk.built ≡ false }
-        requires known { s < numbering.old.met }
-        requires filled { Filled self.old.desk.count (texts_of self.old.desk) numbering.old self.old.moves.now s 0 }
-        ensures done { result ≡ true → Filled self.old.desk.count (texts_of self.old.desk) numbering.new self.new.moves.now (s + 1) 0 }
-        ensures many { result ≡ false → TooMany self.old.desk.count (texts_of self.old.desk) }
-        ensures beyond { Beyond (64 * self.old.desk.count) self.old.moves.now self.new.moves.now }
-        ensures desk { self.new.desk ≡ self.old.desk }
-        ensures sets { self.new.sets.now ≡ self.old.sets.now }
-        ensures names { (self.new.moves.ghost_name ≡ self.old.moves.ghost_name) × (self.new.sets.ghost_name ≡ self.old.sets.ghost_name) }
-    {
-        let state = numbering.states[s];
-        let count = self.desk.count;
-        for c in 0..count {
-            let next = self.desk.step(state, c);
-            if next != NOWHERE {
-                let Some(t) = numbering.number(next) else {
-                    return false;
-                };
-                self.moves[s * count + c] = (t + 1) as u16;
-            }
-        }
-        true
-    }
-
-    // The move cells of all states that moves meet from the start; false where there are too many.
-    pub(crate) fn fill_moves(&mut self, numbering: &mut Numbering) -> bool
-        requires unbuilt { self.old.desk.built ≡ false }
-        requires filled { Filled self.old.desk.count (texts_of self.old.desk) numbering.old self.old.moves.now 0 0 }
-        ensures done { result ≡ true → Filled self.old.desk.count (texts_of self.old.desk) numbering.new self.new.moves.now numbering.new.met 0 }
-        ensures many { result ≡ false → TooMany self.old.desk.count (texts_of self.old.desk) }
-        ensures beyond { Beyond (64 * self.old.desk.count) self.old.moves.now self.new.moves.now }
-        ensures desk { self.new.desk ≡ self.old.desk }
-        ensures sets { self.new.sets.now ≡ self.old.sets.now }
-        ensures names { (self.new.moves.ghost_name ≡ self.old.moves.ghost_name) × (self.new.sets.ghost_name ≡ self.old.sets.ghost_name) }
-    {
-        let mut s = 0;
-        while s < numbering.met {
-            if !self.fill_row(numbering, s) {
-                return false;
-            }
-            s += 1;
-        }
-        true
-    }
-
+impl Numbering {
     // The set cells of the states that have a number.
-    pub(crate) fn fill_sets(&mut self, numbering: &Numbering)
-        requires unbuilt { self.old.desk.built ≡ false }
-        requires counted { 1 ≤ self.old.desk.count }
-        ensures sets { Turned (numbering.now.met * 8) self.new.sets.now (set_at numbering.now) self.old.sets.now }
-        ensures long { length self.new.sets.now ≡ length self.old.sets.now }
-        ensures desk { self.new.desk ≡ self.old.desk }
-        ensures moves { self.new.moves.now ≡ self.old.moves.now }
-        ensures names { (self.new.moves.ghost_name ≡ self.old.moves.ghost_name) × (self.new.sets.ghost_name ≡ self.old.sets.ghost_name) }
+    fn fill_sets(&self, sets: &mut [u64])
+        requires { 512 ≤ length sets.old }
+        ensures { Laid (met_of self.now) (length (met_of self.now)) sets.old sets.new }
     {
-        for i in 0..numbering.met * MOST_LINES {
-            self.sets[i] = numbering.states[i / MOST_LINES][i % MOST_LINES];
+        // Stays: written by place, since after a loop over `sets.chunks_exact_mut(..)` the proof does not know what the cells hold.
+        for (s, state) in self.states.iter().enumerate() {
+            sets[s * MOST_LINES..(s + 1) * MOST_LINES].copy_from_slice(state);
         }
     }
 }

@@ -13,5 +13,5 @@ mod plate;
 mod steps;
 mod table;
 
-pub use desk::Desk;
+pub use desk::{Accepts, Desk};
 pub use open::Plate;

@@ -1,31 +1,26 @@
 // Numbers for the states of a plate as they are met.
-ghost use Rattle.std.specs.Prelude.{◌≡◌, ℕ, ◌<◌, [], ◌∷◌, MatchOption, ◌≢◌, slice_index_or};
+ghost use Rattle.std.specs.Prelude.{◌≡◌, ℕ, ◌<◌, [], ◌∷◌, length, MatchOption, ◌≢◌, slice_index_or};
 ghost use Rattle.meaning.specs.States.{nowhere};
 ghost use Rattle.plate.specs.Filling.{met_of, Numbered};
 
-use crate::numbering::{NOWHERE, Numbering, State};
-use positions::MOST_STATES;
+use crate::numbering::{Numbering, State};
+use arrayvec::ArrayVec;
 
 impl Numbering {
     // The start is state 0.
     pub fn new(start: State) -> Numbering
         ensures { met_of result ≡ start ∷ [] }
     {
-        let mut states = [NOWHERE; MOST_STATES];
-        states[0] = start;
-        Numbering { states, met: 1 }
+        let mut states = ArrayVec::new();
+        states.push(start);
+        Numbering { states }
     }
 
     // The number that a state has, if it was met.
     fn find(&self, state: State) -> Option<usize>
-        ensures { MatchOption result ((i : ℕ) → i < self.now.met → slice_index_or self.now.states i nowhere ≢ state) (λ s. (s < self.now.met) × (slice_index_or self.now.states s nowhere ≡ state)) }
+        ensures { MatchOption result ((i : ℕ) → i < length (met_of self.now) → slice_index_or (met_of self.now) i nowhere ≢ state) (λ s. (s < length (met_of self.now)) × (slice_index_or (met_of self.now) s nowhere ≡ state)) }
     {
-        for s in 0..self.met {
-            if self.states[s] == state {
-                return Some(s);
-            }
-        }
-        None
+        self.states.iter().position(|met| *met == state)
     }
 
     // The number of a state, which is met now if it was not before; none where the plate has no number for it.
@@ -35,12 +30,8 @@ impl Numbering {
         if let Some(s) = self.find(state) {
             return Some(s);
         }
-        let s = self.met;
-        if s >= MOST_STATES {
-            return None;
-        }
-        self.states[s] = state;
-        self.met = s + 1;
+        let s = self.states.len();
+        self.states.try_push(state).ok()?;
         Some(s)
     }
 }

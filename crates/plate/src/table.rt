@@ -1,5 +1,6 @@
 // What the calls above a plate read of it.
 ghost use Rattle.std.specs.Prelude.{◌≡◌, ◌+◌, ◌*◌, ◌<◌, ◌≤◌, true, length, Some, None, MatchOption, MatchResult, slice_index, slice_index_or};
+ghost use Rattle.plate.specs.Desks.{is_built, accepts_of};
 ghost use Rattle.plate.specs.Cells.{Unready, reached};
 
 use crate::open::Plate;
@@ -9,10 +10,10 @@ use sheet::{Alphabet, Entry, Refusal};
 impl Plate<'_> {
     // Refuses a call that needs a built plate, then one with a long extent.
     pub fn ready<A: Alphabet>(&self, extent: &[A]) -> Result<(), Refusal>
-        ensures { MatchResult result (λ _. (self.now.desk.count ≡ A.Alphabet.count) × (self.now.desk.built ≡ true) × (length extent.now ≤ 32768)) (λ f. Unready A.Alphabet.count self.now.desk (length extent.now) f) }
+        ensures { MatchResult result (λ _. (self.now.desk.count ≡ A.COUNT) × (is_built self.now.desk ≡ true) × (length extent.now ≤ 32768)) (λ f. Unready A.COUNT self.now.desk (length extent.now) f) }
     {
         self.desk.hears::<A>()?;
-        if !self.desk.built {
+        if self.desk.accepts.is_none() {
             return Err(Refusal::NotBuilt);
         }
         if extent.len() > LONGEST_EXTENT {
@@ -29,32 +30,21 @@ impl Plate<'_> {
         if state >= MOST_STATES || class >= self.desk.count {
             return None;
         }
-        match self.moves[state * self.desk.count + class] {
-            0 => None,
-            cell => Some(cell as usize - 1),
-        }
+        usize::from(self.moves[state * self.desk.count + class]).checked_sub(1)
     }
 
     // The earliest line that has a word in a state.
     pub fn accepts(&self, state: usize) -> Option<usize>
-        ensures inside { state < 64 → result ≡ slice_index_or self.now.desk.accepts state None }
+        ensures inside { state < 64 → result ≡ slice_index_or (accepts_of self.now.desk) state None }
         ensures outside { 64 ≤ state → result ≡ None }
     {
-        if state < MOST_STATES {
-            self.desk.accepts[state]
-        } else {
-            None
-        }
+        *self.desk.accepts.as_ref()?.get(state)?
     }
 
     // A standing line.
     pub fn line(&self, k: usize) -> Option<&Entry>
         ensures { MatchOption result (self.now.desk.standing ≤ k) (λ e. (k < self.now.desk.standing) × (e.now ≡ slice_index_or self.now.desk.entries k e.now)) }
     {
-        if k < self.desk.standing {
-            Some(&self.desk.entries[k])
-        } else {
-            None
-        }
+        self.desk.lines().get(k)
     }
 }

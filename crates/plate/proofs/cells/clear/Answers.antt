@@ -1,8 +1,7 @@
-use Rattle.std.proofs.Common.{◌<◌, length, set, ap, ◌∙◌, arith}
-use Rattle.plate.proofs.Standing.{cleared_more}
+use Rattle.std.proofs.Common.{◌≡◌, ◌++◌, drop, replicate, ap, ◌∙◌, length-take-le, rules}
 use Rattle.plate.proofs.cells.clear.Goals as goal
 
-pub loop-i-preserved : goal.loop-i-preserved
-loop-i-preserved g c =
-    let less : c.loop-i.i < length c.args.cells.now = omega arith in
-    ap (λ r. set r c.loop-i.i c.args.zero) c.loop-i.invariant ∙ cleared_more c.args.cells.now c.loop-i.i c.args.zero less
+pub returns-clause-sets : goal.returns-clause-sets
+returns-clause-sets c =
+    let zeros : c.fill-2.new.self ≡ replicate 512 0 = c.fill-2.ensures.after (λ y k. search rules) ∙ ap (λ n. replicate n 0) (length-take-le 512 c.args.sets.now c.requires.sets) in
+    ap (λ r. r ++ drop 512 c.args.sets.now) zeros

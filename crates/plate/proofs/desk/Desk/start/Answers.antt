@@ -1,27 +1,26 @@
-use Rattle.std.proofs.Common.{◌<◌, ◌≤◌, length, get_or, sym, refl, ◌∙◌, arith, length-set}
+use Rattle.std.proofs.Common.{◌<◌, map, length, get_or, sym, refl, ◌∙◌, subst, arith, length-set}
 use Rattle.meaning.specs.States.{start, nowhere}
-use Rattle.plate.proofs.Turned.{turned_none, turned_more, turned_all}
-use Rattle.plate.proofs.Meant.{start_is, start_past, start_eight, nowhere_at}
+use Rattle.meaning.specs.Runs.{Mean}
+use Rattle.sheet.specs.Entries.{text_of}
+use Rattle.plate.proofs.Turned.{turned_more, turned_all}
+use Rattle.plate.proofs.Meant.{start_is, start_past, start_eight}
 use Rattle.plate.proofs.desk.Desk.start.Goals as goal
-
-pub loop-k-init : goal.loop-k-init
-loop-k-init c = (refl, λ ls m. turned_none (λ j. get_or (start ls) j 0) nowhere nowhere refl)
 
 pub loop-k-preserved : goal.loop-k-preserved
 loop-k-preserved c =
-    let fits : c.args.self.now.standing ≤ length c.args.self.now.entries = omega arith in
-    let below : c.loop-k.k < length c.loop-k.state = omega arith in (
-      length-set c.loop-k.state c.loop-k.k c.first.result ∙ c.loop-k.invariant.0,
-      λ ls m.
+    let es = c.lines-entry-items.result.now in
+    let below : c.loop-k.k < length c.loop-k.state = omega arith in
+    record {
+      long = length-set c.loop-k.state c.loop-k.k c.first.result ∙ c.loop-k.invariant.long;
+      turned = λ ls m.
           turned_more (λ j. get_or (start ls) j 0) nowhere c.loop-k.state c.loop-k.k c.first.result below
-          (start_is c.args.self.now.entries c.args.self.now.standing fits ls m c.loop-k.k c.index-self-k.result c.first.result c.loop-k-test.true c.first.ensures)
-          (c.loop-k.invariant.1 ls m),
-    )
+          (start_is es ls m c.loop-k.k c.entry-item.result c.first.result c.loop-k-test.true c.entry-item.is c.first.ensures) (c.loop-k.invariant.turned ls m);
+    }
 
 pub returns : goal.returns
 returns c ls m =
-    let fits : c.args.self.now.standing ≤ length c.args.self.now.entries = omega arith in
+    let es = c.lines-entry-items.result.now in
+    let n = subst (λ xs. Mean (map text_of xs) ls) (sym c.lines-entry-items.ensures.these) m in
     turned_all (λ j. get_or (start ls) j 0) nowhere c.loop-k.state (start ls) c.loop-k.k
-    (c.loop-k.invariant.0 ∙ sym (start_eight c.args.self.now.entries c.args.self.now.standing fits ls m c.requires)) (λ j. refl)
-    (λ j h. nowhere_at j ∙ sym (start_past c.args.self.now.entries c.args.self.now.standing fits ls m j (omega arith)))
-    (c.loop-k.invariant.1 ls m)
+    (c.loop-k.invariant.long ∙ sym (start_eight es ls n (omega arith))) (λ j. refl)
+    (λ j h. start_past es ls n j (omega arith)) (c.loop-k.invariant.turned ls n)

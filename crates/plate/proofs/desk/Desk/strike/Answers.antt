@@ -1,24 +1,9 @@
-use Rattle.std.proofs.Common.{refl, arith}
-use Rattle.meaning.specs.Runs.{none_stands}
-use Rattle.plate.proofs.Standing.{struck_last, no_texts}
+use Rattle.std.proofs.Common.{arith}
+use Rattle.plate.proofs.Standing.{struck_none, struck_last}
 use Rattle.plate.proofs.desk.Desk.strike.Goals as goal
 
-pub returns-then-self-eq0 : goal.returns-then-self-eq0
-returns-then-self-eq0 g c =
-    record {
-      away = λ n. absurd (n c.in_ok-hears.ensures);
-      struck = λ _ moves sets h. none_stands (no_texts c.args.self.now.entries c.args.self.now.standing c.if-self-eq0.true);
-      refused = refl;
-      standing = c.requires;
-      counted = refl;
-    }
+pub returns-then-self-eq0-clause-struck : goal.returns-then-self-eq0-clause-struck
+returns-then-self-eq0-clause-struck g c e moves sets h = struck_none c.args.self.now moves sets h c.if-self-eq0.true
 
-pub returns : goal.returns
-returns g c =
-    record {
-      away = λ n. absurd (n c.in_ok-hears.ensures);
-      struck = λ _ moves sets h. struck_last c.args.self.now.entries c.args.self.now.standing c.args.self.now.built h moves sets (omega arith) (omega arith);
-      refused = refl;
-      standing = omega arith;
-      counted = refl;
-    }
+pub returns-clause-struck : goal.returns-clause-struck
+returns-clause-struck g c e moves sets h = struck_last c.args.self.now moves sets h (omega (arith, c.if-self-eq0.false))
