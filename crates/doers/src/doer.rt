@@ -10,7 +10,7 @@ pub trait Doer {
     ghost rule: { State → ℕ → ℕ → Option State };
 
     // Offers a code; true where it was taken, and the rule moved the state. A code is turned away only by the rule, and then the state is as it was.
-    // Stays: the answer is a bool, and the mark at the two ends of a word is 65,535 and no Option, since the definitions of what a doer is given and does have these.
+    // Stays: a doer's rule is over numbers, and 65,535 is the mark of a word's two ends (docs/DOERS.md); the answer is whether the code was taken, which is a bool.
     fn give(&mut self, code: u16, mark: u16) -> bool
         ensures { Does rule (state self.old) code mark result (state self.new) };
 }

@@ -62,6 +62,7 @@ impl Slip {
 }
 
 // The digit whose byte the mark is.
+// Stays: by its two bounds, as docs/DOERS.md has them, and not by `to_digit` of a char, which a mark is not.
 fn digit(mark: u16) -> Option<u64>
     ensures { MatchOption result (mark < lowest_digit ⊎ highest_digit < mark) (λ digit. (digit < 10) × (mark ≡ lowest_digit + digit)) }
 {
