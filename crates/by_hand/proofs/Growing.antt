@@ -6,6 +6,7 @@ use Rattle.meaning.specs.Doers.{Given, Rule, Leads, stays}
 use Rattle.meaning.specs.Runs.{Call, Answer, Account, fresh, Plate, Opens, Called, Run, opened, then, Kept}
 use Rattle.meaning.specs.Asked.{Asked, Reply, told}
 use Rattle.runs.specs.Asking.{plate_of, lent, Made}
+use Rattle.runs.proofs.Underway.{run_kept}
 
 -- the calls so far, with what they told, the account then, and the doer's state
 pub record SoFar (count : ℕ) {S : Type 0} (rule : Rule S) (first : S) (plate : Plate) (start : Account) (calls : List Call) (replies : List Reply) (after : List Given → Account) (s : S) : Type 0 where
@@ -49,15 +50,4 @@ module _ (count : ℕ) {S : Type 0} (rule : Rule S) (first : S) where
       → ((h : List Given) → ((after h).history ≡ h) × (moves' ≡ (after h).moves) × (sets' ≡ (after h).sets))
       → (all : List Answer) × Kept count rule first moves sets calls all moves' sets' s × (map told all ≡ replies)
   all_made plate moves sets zero_moves zero_sets calls replies after s moves' sets' opening end same =
-      let kept : Kept count rule first moves sets calls end.all moves' sets' s = record {
-        plate = plate;
-        zero_moves = zero_moves;
-        zero_sets = zero_sets;
-        opening = opening;
-        account = after end.history;
-        run = end.run;
-        same_moves = (same end.history).1;
-        same_sets = (same end.history).2;
-        leads = subst (λ h. Leads rule first h s) (sym (same end.history).0) end.leads;
-      } in
-      (end.all, kept, end.replied)
+      (end.all, run_kept count rule first opening end.run end.leads (same end.history), end.replied)

@@ -1,11 +1,10 @@
 -- A play from its start, as pieces are played whole, and its end. Assumes nothing.
-use Rattle.std.proofs.Common.{◌≡◌, ℕ, ◌+◌, ◌<◌, ◌≤◌, List, [], ◌∷◌, ◌++◌, length, take, drop, sym, ap, subst, append_assoc, arith, length-append}
+use Rattle.std.proofs.Common.{◌≡◌, ℕ, ◌+◌, ◌<◌, ◌≤◌, List, ◌∷◌, ◌++◌, length, take, drop, sym, ap, subst, append_assoc, arith, length-append}
 use Rattle.meaning.specs.Words.{Line}
 use Rattle.meaning.specs.Pieces.{Cut, NothingAt}
 use Rattle.meaning.specs.Doers.{Given, Rule, Leads, Gives}
 use Rattle.meaning.specs.Runs.{Plays, at_end, no_piece, broken, whole}
 use Rattle.playing.specs.Performances.{Offered, all, some}
-use Rattle.meaning.proofs.Answered.{play_leads}
 
 module _ {S : Type 0} (rule : Rule S) (ls : List Line) (extent : List ℕ) where
   -- from the start in the state s, pieces were played whole up to a place and the state t: a play from there is one from the start
@@ -28,9 +27,6 @@ module _ {S : Type 0} (rule : Rule S) (ls : List Line) (extent : List ℕ) where
   all_taken : {s t : S} (gs : List Given) {taken : ℕ} → length gs ≤ taken → Offered rule s gs taken t → Leads rule s gs t
   all_taken gs h (all l) = l
   all_taken gs h (some {gone = gone} {g = x} rest e l r) = absurd (omega (arith, ap length e, length-append gone (x ∷ rest)))
-
-  pub going_none : {s : S} → Going s 0 0 s
-  going_none {s} = ([], λ more n stop codes why u p. subst (λ k. Plays rule ls extent 0 s more k stop codes why u) (omega arith) p)
 
   module _ {s t : S} (pieces place : ℕ) (a : Going s pieces place t) where
     ends : {u : S} {gs : List Given} {stop codes why : ℕ} → Plays rule ls extent place t gs 0 stop codes why u → Ended s pieces stop codes why u
@@ -60,7 +56,3 @@ module _ {S : Type 0} (rule : Rule S) (ls : List Line) (extent : List ℕ) where
           turned_away : {i : ℕ} {v : S} → i < length p.given → Offered rule t p.given i v → Ended s pieces place i 3 v
           turned_away less (all l) = absurd (omega arith)
           turned_away less (some rest e l r) = ends (broken rest p.cut p.gives e l r)
-
-  -- where a play leads
-  pub plays_leads : {place : ℕ} {s t : S} {gs : List Given} {pieces stop codes why : ℕ} → Plays rule ls extent place s gs pieces stop codes why t → Leads rule s gs t
-  plays_leads p = play_leads rule p

@@ -51,9 +51,6 @@ ruled : {S : Type 0} (rule : Rule S) (s : S) (code mark : ℕ) {r : Option S} (g
 ruled rule s code mark g c m e = ap (λ x. rule s x g.mark) c ∙ ap (rule s code) m ∙ e
 
 module _ {S : Type 0} {rule : Rule S} where
-  pub leads_on : {s t u : S} {gs hs : List Given} → Leads rule s gs t → Leads rule t hs u → Leads rule s (gs ++ hs) u
-  leads_on h k = leads_append _ h k
-
   was_taken : {s t : S} {code mark : ℕ} (b : Bool) → b ≡ true → Does rule s code mark b t → rule s code mark ≡ Some t
   was_taken true e (took d) = d
   was_taken false e (left d) = let z : ◌≡◌ {A = ℕ} 0 1 = cc in absurd (omega arith)
@@ -61,7 +58,7 @@ module _ {S : Type 0} {rule : Rule S} where
   -- one code more is taken
   pub led_more : {s t u : S} (gs : List Given) (i code mark : ℕ) (b : Bool) → Comes gs i code mark → Leads rule s (take i gs) t → b ≡ true → Does rule t code mark b u → Leads rule s (take (i + 1) gs) u
   led_more {s} {t} {u} gs i code mark b (h, c, m) a e d =
-      subst (λ hs. Leads rule s hs u) (sym (take_more gs i nothing h)) (leads_on a (takes (ruled rule t code mark (get_or gs i nothing) c m (was_taken b e d)) stays))
+      subst (λ hs. Leads rule s hs u) (sym (take_more gs i nothing h)) (leads_append _ a (takes (ruled rule t code mark (get_or gs i nothing) c m (was_taken b e d)) stays))
 
   -- a code is turned away
   pub led_not : {s t u : S} (gs : List Given) (i code mark : ℕ) (b : Bool) → Comes gs i code mark → Leads rule s (take i gs) t → b ≡ false → Does rule t code mark b u → Offered rule s gs i u

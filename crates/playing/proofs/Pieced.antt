@@ -8,16 +8,18 @@ use Rattle.meaning.specs.Pieces.{Cut}
 use Rattle.meaning.specs.Doers.{Given, Rule, Leads, gives}
 use Rattle.meaning.specs.Runs.{Means, Mean, played}
 use Rattle.meaning.proofs.Nths.{one_nth, nth_below}
+use Rattle.meaning.proofs.Answered.{play_leads}
 use Rattle.meaning.proofs.Outcomes.{cut_gives}
 use Rattle.sheet.specs.declared.entry.Entry.{Entry}
 use Rattle.sheet.specs.Entries.{text_of}
 use Rattle.plate.specs.declared.desk.Desk.{Desk}
 use Rattle.plate.specs.declared.open.Plate.{Plate}
-use Rattle.plate.specs.Desks.{texts_of, account_of}
+use Rattle.plate.specs.Desks.{texts_of, is_built}
+use Rattle.plate.specs.Plates.{account}
 use Rattle.plate.proofs.Meant.{lines_of, lines_length, line_at}
 use Rattle.playing.specs.Performances.{Offered, Performed, performs}
 use Rattle.playing.proofs.Led.{length_rest}
-use Rattle.playing.proofs.Going.{Ended, PieceOffered, plays_leads}
+use Rattle.playing.proofs.Going.{Ended, PieceOffered}
 
 -- the line of a piece stands
 pub piece_line : (d : Desk) (ls : List Line) → d.standing ≤ length d.entries → Mean (texts_of d) ls → (extent : List ℕ) (place k n : ℕ) → Cut ls extent place k n → k < d.standing
@@ -52,11 +54,11 @@ module _ {X S : Type 0} (p : Plate) (class : X → ℕ) (extent : List X) (rule 
   -- what is told of a play, whatever its doer was given before, and where it leads the doer
   abbrev pub Told : Type 0
   Told =
-      ((h : List Given) → Performed rule (account_of p.desk p.moves.now p.sets.now h) (seen class extent) s (played pieces place codes why) t)
+      ((h : List Given) → Performed rule (account p h) (seen class extent) s (played pieces place codes why) t)
       × ((gs : List Given) × Leads rule s gs t)
 
-  pub told_out : p.desk.built ≡ true → length extent ≤ 32768 → ((ls : List Line) → Mean (texts_of p.desk) ls → Ended rule ls (seen class extent) s pieces place codes why t) → Told
+  pub told_out : is_built p.desk ≡ true → length extent ≤ 32768 → ((ls : List Line) → Mean (texts_of p.desk) ls → Ended rule ls (seen class extent) s pieces place codes why t) → Told
   told_out built short f =
       let (ls, m) = lines_of p.desk in
       let (gs, a) = f ls m in
-      ((λ h. performs ls built (omega (arith, length-map extent class)) m a), (gs, plays_leads rule ls (seen class extent) a))
+      ((λ h. performs ls built (omega (arith, length-map extent class)) m a), (gs, play_leads rule a))

@@ -5,7 +5,7 @@ ghost use Rattle.meaning.specs.Doers.{Given, Leads, gives};
 ghost use Rattle.meaning.specs.Runs.{Means};
 ghost use Rattle.sheet.specs.Entries.{text_of};
 ghost use Rattle.plate.specs.Cells.{Unready};
-ghost use Rattle.plate.specs.Desks.{account_of};
+ghost use Rattle.plate.specs.Plates.{account};
 ghost use Rattle.reading.specs.Answers.{Ready};
 ghost use Rattle.playing.specs.Performances.{Offered, Performed, play_answer};
 
@@ -16,16 +16,18 @@ use reading::{Why, longest};
 use sheet::{Alphabet, Entry, Refusal};
 
 // Gives the codes of a word of the line to the doer, in order, until one is turned away; answers how many it took.
+// Stays: a count and no `Result`, since where a piece is broken this count is what `play` answers.
 fn give_word<A: Alphabet, D: Doer>(line: &Entry, word: &[A], doer: &mut D) -> usize
     requires { length word.now ≤ 32768 }
-    ensures { (l : Line) (w : Word) → Means (text_of line.now) l → Of l.expr w → classes w ≡ seen A.Alphabet.classed word.now → Offered D.Doer.rule (D.Doer.state doer.old) (gives l w) result (D.Doer.state doer.new) }
+    ensures { (l : Line) (w : Word) → Means (text_of line.now) l → Of l.expr w → classes w ≡ seen A.classed word.now → Offered D.rule (D.state doer.old) (gives l w) result (D.state doer.new) }
 {
     if !doer.give(line.open(), NO_MARK) {
         return 0;
     }
     let mut set = line.first();
-    for i in 0..word.len() {
-        let class = word[i].class();
+    for (i, symbol) in word.iter().enumerate() {
+        let class = symbol.class();
+        // Stays: `as`, since a class is below 256.
         if !doer.give(line.code(set, class), class as u16) {
             return i + 1;
         }
@@ -45,19 +47,21 @@ pub fn play<A: Alphabet, D: Doer>(
     extent: &[A],
     doer: &mut D,
 ) -> Result<(usize, usize, usize, Why), Refusal>
-    ensures away { (plate.now.desk.count ≢ A.Alphabet.count) → (result ≡ Err Refusal.NotOpen) × (doer.new ≡ doer.old) }
-    ensures heard { plate.now.desk.count ≡ A.Alphabet.count → (h : List Given) → Performed D.Doer.rule (account_of plate.now.desk plate.now.moves.now plate.now.sets.now h) (seen A.Alphabet.classed extent.now) (D.Doer.state doer.old) (play_answer result) (D.Doer.state doer.new) }
-    ensures cases { MatchResult result (λ _. Ready A.Alphabet.count plate.now.desk (length extent.now)) (λ f. Unready A.Alphabet.count plate.now.desk (length extent.now) f) }
-    ensures doer { MatchResult result (λ a. (gs : List Given) × Leads D.Doer.rule (D.Doer.state doer.old) gs (D.Doer.state doer.new)) (λ _. doer.new ≡ doer.old) }
+    ensures away { (plate.now.desk.count ≢ A.COUNT) → (result ≡ Err Refusal.NotOpen) × (doer.new ≡ doer.old) }
+    ensures heard { plate.now.desk.count ≡ A.COUNT → (h : List Given) → Performed D.rule (account plate.now h) (seen A.classed extent.now) (D.state doer.old) (play_answer result) (D.state doer.new) }
+    ensures cases { MatchResult result (λ _. Ready A.COUNT plate.now.desk (length extent.now)) (λ f. Unready A.COUNT plate.now.desk (length extent.now) f) }
+    ensures doer { MatchResult result (λ a. (gs : List Given) × Leads D.rule (D.state doer.old) gs (D.state doer.new)) (λ _. doer.new ≡ doer.old) }
     ensures bounds { IfOk result (λ a. (a.0 ≤ a.1) × (a.1 ≤ length extent.now)) }
 {
     plate.ready(extent)?;
+    // Stays: `place` moves by the length of the piece just played, as in `read`.
     let mut pieces = 0;
     let mut place = 0;
     while place < extent.len() {
         let Some(piece) = longest(plate, extent, place) else {
             return Ok((pieces, place, 0, Why::NoPiece));
         };
+        // `longest` names only standing lines, so there is one.
         let Some(entry) = plate.line(piece.line) else {
             return Ok((pieces, place, 0, Why::NoPiece));
         };

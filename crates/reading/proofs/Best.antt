@@ -1,7 +1,8 @@
 -- The longest word at a place, of the earliest line that has it, as the symbols from there are looked at one by one. Assumes nothing.
-use Rattle.std.proofs.Common.{◌≡◌, ℕ, ◌+◌, ◌<◌, ◌≤◌, ◌⊎◌, List, [], ◌∷◌, ◌++◌, length, take, drop, sym, refl, ap, ◌∙◌, subst, inl, inr, arith}
+use Rattle.std.proofs.Common.{◌≡◌, ℕ, ◌+◌, ◌<◌, ◌≤◌, ◌⊎◌, List, [], ◌∷◌, ◌++◌, length, take, drop, Some, None, Option, IfSome, MatchOption, sym, ap, ◌∙◌, subst, inl, inr, arith}
 use Rattle.std.proofs.lemmas.Bool.{cases_lt, both_ways}
 use Rattle.std.proofs.lemmas.List.{take-append-drop, take-take}
+use Rattle.meaning.specs.declared.Piece.{Piece}
 use Rattle.meaning.specs.Words.{Line, Clash}
 use Rattle.meaning.specs.Pieces.{Nth, WordAt, Cut, NothingAt}
 use Rattle.meaning.specs.ReadLaws.{AllClear}
@@ -11,20 +12,26 @@ use Rattle.meaning.proofs.Found.{fit_ends, ends_fit}
 use Rattle.plate.proofs.Walking.{Unmarked, TakenAfter, NoneAfter}
 
 module _ (ls : List Line) (extent : List ℕ) (place : ℕ) where
-  -- of the words of at most n classes the longest, of the earliest line; its length is 0 where there is none
-  abbrev pub Best : ℕ → ℕ → ℕ → Type 0
-  Best n k len = ((len ≡ 0) ⊎ WordAt ls extent place k len) × ((j m : ℕ) → WordAt ls extent place j m → m ≤ n → (m < len) ⊎ ((m ≡ len) × (k ≤ j)))
+  -- a word of the line j with m classes is no better than the piece: shorter, or as long and of no earlier line
+  abbrev NoBetter : (j m : ℕ) → Piece → Type 0
+  NoBetter j m p = (m < p.len) ⊎ ((m ≡ p.len) × (p.line ≤ j))
 
-  pub best_none : Best 0 0 0
-  best_none = (inl refl, λ j m w h. let s = w.some in absurd (omega arith))
+  -- of the words of at most n classes the longest, of the earliest line, or none where there is none
+  abbrev pub Best : ℕ → Option Piece → Type 0
+  Best n best =
+      IfSome best (λ p. WordAt ls extent place p.line p.len)
+      × ((j m : ℕ) → WordAt ls extent place j m → m ≤ n → MatchOption best ⊥ (NoBetter j m))
+
+  pub best_none : Best 0 None
+  best_none = (tt, λ j m w h. let s = w.some in absurd (omega arith))
 
   -- a line that has a word of m classes
   no_word : (j m : ℕ) (w : WordAt ls extent place j m) → Unmarked w.line (take m (drop place extent)) → ⊥
   no_word j m w e = both_ways _ e (fit_ends ls extent place w.line w.stands w)
 
   -- no line has a word of one class more
-  pub best_same : (n k len : ℕ) → NoneAfter ls (take (n + 1) (drop place extent)) → Best n k len → Best (n + 1) k len
-  best_same n k len none b = (
+  pub best_same : (n : ℕ) (best : Option Piece) → NoneAfter ls (take (n + 1) (drop place extent)) → Best n best → Best (n + 1) best
+  best_same n best none b = (
     b.0,
     λ j m w h. elim (cases_lt n m) [
       | inl o ↦
@@ -35,10 +42,10 @@ module _ (ls : List Line) (extent : List ℕ) (place : ℕ) where
   )
 
   -- the line i is the earliest that has one
-  pub best_more : (n k len i : ℕ) → TakenAfter ls (take (n + 1) (drop place extent)) i → place + (n + 1) ≤ length extent → Best n k len → Best (n + 1) i (n + 1)
-  best_more n k len i (below, marked, others) fits b =
+  pub best_more : (n i : ℕ) → TakenAfter ls (take (n + 1) (drop place extent)) i → place + (n + 1) ≤ length extent → Best (n + 1) (Some (record { line = i; place = place; len = n + 1 }))
+  best_more n i (below, marked, others) fits =
       let (l, s) = nth_at ls i below in (
-        inr (ends_fit ls extent place l s (omega arith) fits (marked l s)),
+        ends_fit ls extent place l s (omega arith) fits (marked l s),
         λ j m w h. elim (cases_lt m (n + 1)) [
           | inl o ↦ inl o
           | inr o ↦ elim (cases_lt j i) [
@@ -51,13 +58,13 @@ module _ (ls : List Line) (extent : List ℕ) (place : ℕ) where
       )
 
   -- the extent ends
-  pub best_end : (n k len : ℕ) → length extent ≤ place + n → Best n k len → Best (length extent) k len
-  best_end n k len h b = (b.0, λ j m w _. let i = w.inside in b.1 j m w (omega arith))
+  pub best_end : (n : ℕ) (best : Option Piece) → length extent ≤ place + n → Best n best → Best (length extent) best
+  best_end n best h b = (b.0, λ j m w _. let i = w.inside in b.1 j m w (omega arith))
 
   -- no line has a longer word
-  pub best_lost : (n k len c : ℕ) → take (n + 1) (drop place extent) ≡ take n (drop place extent) ++ c ∷ []
-      → ((β : List ℕ) (j : ℕ) (l : Line) → Nth ls j l → Unmarked l ((take n (drop place extent) ++ c ∷ []) ++ β)) → Best n k len → Best (length extent) k len
-  best_lost n k len c e f b = (
+  pub best_lost : (n c : ℕ) (best : Option Piece) → take (n + 1) (drop place extent) ≡ take n (drop place extent) ++ c ∷ []
+      → ((β : List ℕ) (j : ℕ) (l : Line) → Nth ls j l → Unmarked l ((take n (drop place extent) ++ c ∷ []) ++ β)) → Best n best → Best (length extent) best
+  best_lost n c best e f b = (
     b.0,
     λ j m w _. elim (cases_lt n m) [
       | inl o ↦ absurd (no_word j m w (subst (Unmarked w.line) (parts m o) (f (drop (n + 1) (take m (drop place extent))) j w.line w.stands)))
@@ -70,17 +77,11 @@ module _ (ls : List Line) (extent : List ℕ) (place : ℕ) where
           ap (λ xs. xs ++ drop (n + 1) (take m (drop place extent))) (sym e ∙ sym (take-take (n + 1) m (drop place extent) (omega arith)))
           ∙ take-append-drop (n + 1) (take m (drop place extent))
 
-  pub none_found : (k len : ℕ) → len ≡ 0 → Best (length extent) k len → NothingAt ls extent place
-  none_found k len e b j m w =
-      let s = w.some in
-      let i = w.inside in
-      let h = b.1 j m w (omega arith) in
-      omega arith
-
-  pub cut_found : (k len : ℕ) → AllClear ls → 0 < len → Best (length extent) k len → Cut ls extent place k len
-  cut_found k len clear h (inl e, b) = absurd (omega arith)
-  cut_found k len clear h (inr w, b) = record {
+  -- what is found where all was looked at
+  pub best_found : (best : Option Piece) → AllClear ls → Best (length extent) best → MatchOption best (NothingAt ls extent place) (λ p. Cut ls extent place p.line p.len)
+  best_found None clear b = λ j m w. let i = w.inside in b.1 j m w (omega arith)
+  best_found (Some p) clear (w, b) = record {
     fits = w;
-    one_coding = λ v o e. one_word w.line (nth_each (λ l. Clash l.expr → ⊥) ls k w.line w.stands clear) v w.word o w.of_line e;
+    one_coding = λ v o e. one_word w.line (nth_each (λ l. Clash l.expr → ⊥) ls p.line w.line w.stands clear) v w.word o w.of_line e;
     longest = λ j m x. let i = x.inside in b j m x (omega arith);
   }

@@ -1,9 +1,9 @@
 -- The codes of a word, place by place: the set that the classes before a place lead to has a position with the code there. Assumes nothing.
-use Rattle.std.proofs.Common.{◌≡◌, ℕ, ◌+◌, ◌<◌, ◌≤◌, true, List, [], ◌∷◌, ◌++◌, map, length, get_or, take, set, sym, refl, ap, ◌∙◌, subst, ap₂, subst₂, inl, inr, add-one, arith}
+use Rattle.std.proofs.Common.{◌≡◌, ℕ, ◌+◌, ◌<◌, true, List, [], ◌∷◌, ◌++◌, map, length, get_or, take, set, sym, refl, ap, ◌∙◌, subst, subst₂, inl, inr, add-one, arith}
 use lib.ListN.{length-map}
-use Rattle.std.proofs.lemmas.List.{take_more, take_more_set, take_all, same_from_push}
+use Rattle.std.proofs.lemmas.List.{take_more, take_more_set, same_from_push}
 use Rattle.std.proofs.lemmas.Bool.{cases_lt}
-use Rattle.meaning.specs.Words.{Line, Word, Of, Clash, classes, line_codes}
+use Rattle.meaning.specs.Words.{Line, Word, Of, Clash, classes}
 use Rattle.meaning.specs.Positions.{has, holds, line_symbols, symbol_at, first_set, move, move_all, FitsAt, Ends, begins, goes_on}
 use Rattle.meaning.specs.Laws.{Ranged}
 use Rattle.meaning.proofs.Masks.{In}
@@ -84,11 +84,3 @@ module _ (l : Line) (w : Word) (xs : List ℕ) (same : classes w ≡ xs) where
       let here : v ≡ get_or (map (λ x. x.code) w) i 0 = f p (subst₂ (λ a b. Lowest l a b p) (ap (λ y. move_all l (first_set l) (take i y)) same ∙ sym d) (ap (λ y. get_or y i 0) same ∙ e) low) ∙ n in
       take_more_set codes (i + 1) v k ∙ ap (λ z. z ++ v ∷ []) before
       ∙ ap (λ z. l.open_code ∷ z) (ap (λ y. take i (map (λ x. x.code) w) ++ y ∷ []) here ∙ sym (take_more (map (λ x. x.code) w) i 0 (omega (arith, codes_length))))
-
-  -- and the last
-  pub codes_written : (n i v : ℕ) (codes : List ℕ) → n ≡ length xs → n ≤ i → i ≤ n → n + 1 < length codes → v ≡ l.close_code → take (i + 1) codes ≡ l.open_code ∷ take i (map (λ x. x.code) w)
-      → take (n + 2) (set codes (n + 1) v) ≡ line_codes l w
-  codes_written n i v codes e h j k d before =
-      let all : take i (map (λ x. x.code) w) ≡ map (λ x. x.code) w = take_all i (map (λ x. x.code) w) (omega (arith, codes_length)) in
-      ap (λ m. take m (set codes (n + 1) v)) (omega arith) ∙ take_more_set codes (n + 1) v k ∙ ap (λ m. take m codes ++ v ∷ []) (omega arith)
-      ∙ ap (λ z. z ++ v ∷ []) before ∙ ap₂ (λ z y. l.open_code ∷ (z ++ y ∷ [])) all d

@@ -13,9 +13,10 @@ use Rattle.sheet.specs.declared.refusal.Refusal.TheVariants.{NotOpen}
 use Rattle.sheet.specs.Refusals.{reported}
 use Rattle.plate.specs.declared.desk.Desk.{Desk}
 use Rattle.plate.specs.declared.open.Plate.{Plate}
-use Rattle.plate.specs.Desks.{texts_of, account_of}
+use Rattle.plate.specs.Desks.{texts_of, is_built}
 use Rattle.plate.specs.Cells.{Unready, away, unbuilt as not_built, long as too_long}
 use Rattle.plate.proofs.Meant.{lines_of}
+use Rattle.plate.specs.Plates.{account}
 
 module _ (ls : List Line) (extent : List ℕ) where
   -- one piece more
@@ -40,13 +41,13 @@ module _ (ls : List Line) (extent : List ℕ) where
       (read_out ls built short m (record { cuts = cuts; fits = omega arith; ends = subst (λ i. Why ls extent (length list) i place why) (sym some) ends })))
 
 -- what a read of a built plate tells
-pub heard_out : {X : Type 0} (p : Plate) (class : X → ℕ) (extent : List X) (list after : List Piece) (n place why : ℕ) → p.desk.built ≡ true → length extent ≤ 32768
+pub heard_out : {X : Type 0} (p : Plate) (class : X → ℕ) (extent : List X) (list after : List Piece) (n place why : ℕ) → is_built p.desk ≡ true → length extent ≤ 32768
     → n ≤ length after → length after ≡ length list → drop n after ≡ drop n list
     → ((ls : List Line) → Mean (texts_of p.desk) ls → Cuts ls (seen class extent) 0 (take n after) place × Why ls (seen class extent) (length list) n place why)
-    → (h : List Given) → Listed (account_of p.desk p.moves.now p.sets.now h) (seen class extent) list (listed after n place why)
+    → (h : List Given) → Listed (account p h) (seen class extent) list (listed after n place why)
 heard_out p class extent list after n place why built short fits many same f h =
     let (ls, m) = lines_of p.desk in
-    listed_out ls (seen class extent) (account_of p.desk p.moves.now p.sets.now h) list after n place why built (omega (arith, length-map extent class)) m (f ls m).0 fits many same
+    listed_out ls (seen class extent) (account p h) list after n place why built (omega (arith, length-map extent class)) m (f ls m).0 fits many same
     (f ls m).1
 
 -- a call of another count
@@ -56,8 +57,8 @@ away_out count d len _ (not_built e b) o = absurd (o e)
 away_out count d len _ (too_long e b l) o = absurd (o e)
 
 -- a read that is refused
-pub refused_out : {X : Type 0} (count : ℕ) (d : Desk) (class : X → ℕ) (extent : List X) (moves sets : List ℕ) (h : List Given) (f : Refusal) → d.count ≡ count
-    → Unready count d (length extent) f → Refuses (account_of d moves sets h) (seen class extent) (reported f)
-refused_out count d class extent moves sets h _ e (away n) = absurd (n e)
-refused_out count d class extent moves sets h _ e (not_built _ b) = unbuilt b
-refused_out count d class extent moves sets h _ e (too_long _ b l) = long b (omega (arith, length-map extent class))
+pub refused_out : {X : Type 0} (count : ℕ) (p : Plate) (class : X → ℕ) (extent : List X) (h : List Given) (f : Refusal) → p.desk.count ≡ count
+    → Unready count p.desk (length extent) f → Refuses (account p h) (seen class extent) (reported f)
+refused_out count p class extent h _ e (away n) = absurd (n e)
+refused_out count p class extent h _ e (not_built _ b) = unbuilt b
+refused_out count p class extent h _ e (too_long _ b l) = long b (omega (arith, length-map extent class))

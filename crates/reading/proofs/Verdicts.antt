@@ -18,10 +18,11 @@ use Rattle.sheet.specs.Refusals.{reported}
 use Rattle.sheet.specs.Entries.{text_of}
 use Rattle.sheet.proofs.Entries.{record_clear as clear}
 use Rattle.plate.specs.declared.open.Plate.{Plate}
-use Rattle.plate.specs.Desks.{texts_of, account_of}
+use Rattle.plate.specs.Desks.{texts_of, is_built}
 use Rattle.plate.specs.Cells.{Unready, away, unbuilt as not_built, long as too_long}
 use Rattle.plate.proofs.Standing.{texts_length}
 use Rattle.plate.proofs.Meant.{lines_of, line_at}
+use Rattle.plate.specs.Plates.{account}
 
 module _ (a : Account) (k : ℕ) (xs cells : List ℕ) (ls : List Line) (l : Line) (built : a.built ≡ true) (short : length xs ≤ 32768) (room : length xs + 2 ≤ length cells)
     (m : Mean a.texts ls) (stands : Nth ls k l) where
@@ -36,27 +37,23 @@ module _ (a : Account) (k : ℕ) (xs cells : List ℕ) (ls : List Line) (l : Lin
       (a_word built short room m stands (w, o, d, refl) (λ γ (v, p, f, r). sym r ∙ ap (line_codes l) (one_word l clash v w p o (f ∙ sym d))))
 
 module _ {X : Type 0} (p : Plate) (class : X → ℕ) (extent : List X) (k : ℕ) (cells : List ℕ) (h : List Given) where
-  -- what is known of the plate
-  abbrev known : Account
-  known = account_of p.desk p.moves.now p.sets.now h
-
   seen_length : length (seen class extent) ≡ length extent
   seen_length = length-map extent class
 
   stand : length (texts_of p.desk) ≡ p.desk.standing
-  stand = texts_length p.desk.entries p.desk.standing (omega (arith, p.few, p.desk.full))
+  stand = texts_length p.desk.entries p.desk.standing (omega (arith, p.desk.few, p.desk.full))
 
-  pub unready_told : (count : ℕ) (f : Refusal) → p.desk.count ≡ count → Unready count p.desk (length extent) f → Tested known k (seen class extent) cells (declined (reported f)) cells
+  pub unready_told : (count : ℕ) (f : Refusal) → p.desk.count ≡ count → Unready count p.desk (length extent) f → Tested (account p h) k (seen class extent) cells (declined (reported f)) cells
   unready_told count _ e (away n) = absurd (n e)
   unready_told count _ e (not_built _ b) = unbuilt b
   unready_told count _ e (too_long _ b l) = long b (omega (arith, seen_length))
 
-  module _ (built : p.desk.built ≡ true) (short : length extent ≤ 32768) where
-    pub no_line_told : p.desk.standing ≤ k → Tested known k (seen class extent) cells (declined (plain 9 4)) cells
+  module _ (built : is_built p.desk ≡ true) (short : length extent ≤ 32768) where
+    pub no_line_told : p.desk.standing ≤ k → Tested (account p h) k (seen class extent) cells (declined (plain 9 4)) cells
     no_line_told n = no_line built (omega (arith, seen_length)) (omega (arith, stand))
 
     module _ (below : k < p.desk.standing) where
-      pub few_cells_told : length cells < length extent + 2 → Tested known k (seen class extent) cells (declined (plain 10 4)) cells
+      pub few_cells_told : length cells < length extent + 2 → Tested (account p h) k (seen class extent) cells (declined (plain 10 4)) cells
       few_cells_told n = few_cells built (omega (arith, seen_length)) (omega (arith, stand)) (omega (arith, seen_length))
 
       -- e is the record of the line
@@ -67,21 +64,21 @@ module _ {X : Type 0} (p : Plate) (class : X → ℕ) (extent : List X) (k : ℕ
         line_here : LineHere
         line_here =
             let (ls, m) = lines_of p.desk in
-            let (l, n, o) = line_at p.desk.entries p.desk.standing (omega (arith, p.few, p.desk.full)) ls m k e below in
+            let (l, n, o) = line_at p.desk.entries p.desk.standing (omega (arith, p.desk.few, p.desk.full)) ls m k e below in
             (ls, l, m, n, subst (λ x. Means (text_of x) l) (sym is) o)
 
         pub word_told : (b : Bool) → ((l : Line) → Means (text_of e) l → b ≡ has (move_all l (first_set l) (seen class extent)) (end_mark l))
-            → b ≡ false → Tested known k (seen class extent) cells (word false) cells
+            → b ≡ false → Tested (account p h) k (seen class extent) cells (word false) cells
         word_told b f d =
             let (ls, l, m, n, o) = line_here in
-            false_told known k (seen class extent) cells ls l built (omega (arith, seen_length)) (omega (arith, seen_length)) m n (sym (f l o) ∙ d)
+            false_told (account p h) k (seen class extent) cells ls l built (omega (arith, seen_length)) (omega (arith, seen_length)) m n (sym (f l o) ∙ d)
 
         pub codes_told : (b : Bool) → ((l : Line) → Means (text_of e) l → b ≡ has (move_all l (first_set l) (seen class extent)) (end_mark l))
             → b ≡ true → (after : List ℕ) → drop (length extent + 2) after ≡ drop (length extent + 2) cells
             → ((l : Line) → Means (text_of e) l → (w : Word) → Of l.expr w → classes w ≡ seen class extent → take (length extent + 2) after ≡ line_codes l w)
-            → Tested known k (seen class extent) cells (word true) after
+            → Tested (account p h) k (seen class extent) cells (word true) after
         codes_told b f d after beyond codes =
             let (ls, l, m, n, o) = line_here in
-            true_told known k (seen class extent) cells ls l built (omega (arith, seen_length)) (omega (arith, seen_length)) m n (clear e l o) (sym (f l o) ∙ d) after
+            true_told (account p h) k (seen class extent) cells ls l built (omega (arith, seen_length)) (omega (arith, seen_length)) m n (clear e l o) (sym (f l o) ∙ d) after
             (subst (λ i. drop (i + 2) after ≡ drop (i + 2) cells) (sym seen_length) beyond)
             (λ w q r. subst (λ i. take (i + 2) after ≡ line_codes l w) (sym seen_length) (codes l o w q r))

@@ -9,6 +9,7 @@ use Rattle.sheet.specs.declared.refusal.Refusal.{Refusal}
 use Rattle.sheet.specs.declared.refusal.Refusal.TheVariants.{NoSuchLine, TooFewCodeCells}
 use Rattle.sheet.specs.Refusals.{reported}
 use Rattle.plate.specs.declared.desk.Desk.{Desk}
+use Rattle.plate.specs.Desks.{is_built}
 use Rattle.plate.specs.Cells.{Unready}
 
 -- why a read or a play ended, as a number
@@ -31,7 +32,7 @@ test_answer (Err f) = declined (reported f)
 -- a plate that is ready for an extent of `len` symbols
 pub record Ready (count : ℕ) (desk : Desk) (len : ℕ) : Type 0 where
   pub open_for : desk.count ≡ count
-  pub built : desk.built ≡ true
+  pub built : is_built desk ≡ true
   pub short : len ≤ 32768
 
 -- why a test is refused, in the order of its checks: as a read is, then for its line, then for its code cells

@@ -4,8 +4,9 @@ ghost use Rattle.meaning.specs.Alphabets.{seen};
 ghost use Rattle.meaning.specs.Pieces.{Cut, NothingAt};
 ghost use Rattle.meaning.specs.Doers.{Given};
 ghost use Rattle.meaning.specs.Runs.{Mean, Listed};
-ghost use Rattle.plate.specs.Desks.{texts_of, account_of};
+ghost use Rattle.plate.specs.Desks.{texts_of, is_built};
 ghost use Rattle.plate.specs.Cells.{Unready};
+ghost use Rattle.plate.specs.Plates.{account};
 ghost use Rattle.reading.specs.Answers.{why_number, read_answer, Ready};
 
 use meaning::Piece;
@@ -23,6 +24,7 @@ pub enum Why {
 }
 
 impl Why {
+    // Stays: the number is what programs are told (docs/READING.md), one for each case, by name.
     pub fn number(&self) -> u8
         ensures { result ≡ why_number self.now }
     {
@@ -50,26 +52,22 @@ impl fmt::Display for Why {
 // The longest word of any standing line at a place of a built plate's extent, of the earliest line that has it.
 pub fn longest<A: Alphabet>(plate: &Plate, extent: &[A], place: usize) -> Option<Piece>
     ensures within { IfSome result (λ p. (p.place ≡ place) × (0 < p.len) × (place + p.len ≤ length extent.now)) }
-    ensures cut { plate.now.desk.count ≡ A.Alphabet.count → plate.now.desk.built ≡ true → (ls : List Line) → Mean (texts_of plate.now.desk) ls → MatchOption result (NothingAt ls (seen A.Alphabet.classed extent.now) place) (λ p. Cut ls (seen A.Alphabet.classed extent.now) place p.line p.len) }
+    ensures cut { plate.now.desk.count ≡ A.COUNT → is_built plate.now.desk ≡ true → (ls : List Line) → Mean (texts_of plate.now.desk) ls → MatchOption result (NothingAt ls (seen A.classed extent.now) place) (λ p. Cut ls (seen A.classed extent.now) place p.line p.len) }
 {
+    let rest = extent.get(place..)?;
     let mut state = 0;
-    let mut line = 0;
-    let mut len = 0;
-    for i in place..extent.len() {
-        match plate.next(state, extent[i].class()) {
-            None => break,
-            Some(next) => state = next,
-        }
-        if let Some(k) = plate.accepts(state) {
-            line = k;
-            len = i + 1 - place;
+    let mut best = None;
+    for (before, symbol) in rest.iter().enumerate() {
+        let Some(next) = plate.next(state, symbol.class()) else {
+            break;
+        };
+        state = next;
+        if let Some(line) = plate.accepts(state) {
+            let len = before + 1;
+            best = Some(Piece { line, place, len });
         }
     }
-    if len == 0 {
-        None
-    } else {
-        Some(Piece { line, place, len })
-    }
+    best
 }
 
 // Cuts an extent into pieces, which it writes into the list, and answers the pieces listed, the place reached and why.
@@ -78,12 +76,14 @@ pub fn read<A: Alphabet>(
     extent: &[A],
     list: &mut [Piece],
 ) -> Result<(usize, usize, Why), Refusal>
-    ensures away { (plate.now.desk.count ≢ A.Alphabet.count) → result ≡ Err Refusal.NotOpen }
-    ensures heard { plate.now.desk.count ≡ A.Alphabet.count → (h : List Given) → Listed (account_of plate.now.desk plate.now.moves.now plate.now.sets.now h) (seen A.Alphabet.classed extent.now) list.old (read_answer list.new result) }
-    ensures cases { MatchResult result (λ _. Ready A.Alphabet.count plate.now.desk (length extent.now)) (λ f. Unready A.Alphabet.count plate.now.desk (length extent.now) f) }
+    ensures away { (plate.now.desk.count ≢ A.COUNT) → result ≡ Err Refusal.NotOpen }
+    ensures heard { plate.now.desk.count ≡ A.COUNT → (h : List Given) → Listed (account plate.now h) (seen A.classed extent.now) list.old (read_answer list.new result) }
+    ensures cases { MatchResult result (λ _. Ready A.COUNT plate.now.desk (length extent.now)) (λ f. Unready A.COUNT plate.now.desk (length extent.now) f) }
     ensures list { MatchResult result (λ a. (a.0 ≤ length list.old) × (a.1 ≤ length extent.now) × (drop a.0 list.new ≡ drop a.0 list.old)) (λ _. list.new ≡ list.old) }
 {
     plate.ready(extent)?;
+    // Stays: `place` moves by the length of the piece just found, and `play` walks so too; an iterator over the pieces would have to tell why it ended, which each loop says where it
+    // returns. A cell of the list is written by its index, since after a write through `get_mut` the proof knew none of its pieces.
     let mut listed = 0;
     let mut place = 0;
     while place < extent.len() {

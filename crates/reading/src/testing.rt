@@ -6,7 +6,7 @@ ghost use Rattle.meaning.specs.Doers.{Given};
 ghost use Rattle.meaning.specs.Runs.{Means};
 ghost use Rattle.meaning.specs.Tests.{Tested};
 ghost use Rattle.sheet.specs.Entries.{text_of};
-ghost use Rattle.plate.specs.Desks.{account_of};
+ghost use Rattle.plate.specs.Plates.{account};
 ghost use Rattle.reading.specs.Answers.{Ready, Untested, test_answer};
 
 use plate::Plate;
@@ -14,7 +14,7 @@ use sheet::{Alphabet, Entry, Refusal};
 
 // Whether the classes of a whole extent are those of a word of the line.
 fn is_word<A: Alphabet>(line: &Entry, extent: &[A]) -> bool
-    ensures { (l : Line) → Means (text_of line.now) l → result ≡ has (move_all l (first_set l) (seen A.Alphabet.classed extent.now)) (end_mark l) }
+    ensures { (l : Line) → Means (text_of line.now) l → result ≡ has (move_all l (first_set l) (seen A.classed extent.now)) (end_mark l) }
 {
     let mut set = line.first();
     for symbol in extent {
@@ -24,15 +24,17 @@ fn is_word<A: Alphabet>(line: &Entry, extent: &[A]) -> bool
 }
 
 // The codes of a word: the first, one for each symbol, and the last.
+// Stays: `give_word` of the crate playing walks a word in the same way, but gives the codes to a doer. A doer over the cells would not do here: what the trait
+// promises is the doer's state, so nothing would be known of the cells behind the codes, which `test` promises to leave.
 fn write_codes<A: Alphabet>(line: &Entry, extent: &[A], codes: &mut [u16])
     requires { length extent.now + 2 ≤ length codes.old }
     ensures beyond { drop (length extent.now + 2) codes.new ≡ drop (length extent.now + 2) codes.old }
-    ensures word { (l : Line) → Means (text_of line.now) l → (w : Word) → Of l.expr w → classes w ≡ seen A.Alphabet.classed extent.now → take (length extent.now + 2) codes.new ≡ line_codes l w }
+    ensures word { (l : Line) → Means (text_of line.now) l → (w : Word) → Of l.expr w → classes w ≡ seen A.classed extent.now → take (length extent.now + 2) codes.new ≡ line_codes l w }
 {
     codes[0] = line.open();
     let mut set = line.first();
-    for i in 0..extent.len() {
-        let class = extent[i].class();
+    for (i, symbol) in extent.iter().enumerate() {
+        let class = symbol.class();
         codes[i + 1] = line.code(set, class);
         set = line.next(set, class);
     }
@@ -46,9 +48,9 @@ pub fn test<A: Alphabet>(
     extent: &[A],
     codes: &mut [u16],
 ) -> Result<bool, Refusal>
-    ensures away { (plate.now.desk.count ≢ A.Alphabet.count) → result ≡ Err Refusal.NotOpen }
-    ensures heard { plate.now.desk.count ≡ A.Alphabet.count → (h : List Given) → Tested (account_of plate.now.desk plate.now.moves.now plate.now.sets.now h) line (seen A.Alphabet.classed extent.now) codes.old (test_answer result) codes.new }
-    ensures cases { MatchResult result (λ _. Ready A.Alphabet.count plate.now.desk (length extent.now) × (line < plate.now.desk.standing) × (length extent.now + 2 ≤ length codes.old)) (λ f. Untested A.Alphabet.count plate.now.desk (length extent.now) line (length codes.old) f) }
+    ensures away { (plate.now.desk.count ≢ A.COUNT) → result ≡ Err Refusal.NotOpen }
+    ensures heard { plate.now.desk.count ≡ A.COUNT → (h : List Given) → Tested (account plate.now h) line (seen A.classed extent.now) codes.old (test_answer result) codes.new }
+    ensures cases { MatchResult result (λ _. Ready A.COUNT plate.now.desk (length extent.now) × (line < plate.now.desk.standing) × (length extent.now + 2 ≤ length codes.old)) (λ f. Untested A.COUNT plate.now.desk (length extent.now) line (length codes.old) f) }
     ensures codes { MatchResult result (λ w. MatchBool w (drop (length extent.now + 2) codes.new ≡ drop (length extent.now + 2) codes.old) (codes.new ≡ codes.old)) (λ _. codes.new ≡ codes.old) }
 {
     plate.ready(extent)?;

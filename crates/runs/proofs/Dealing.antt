@@ -1,8 +1,7 @@
 -- The calls of a run and their lists, as one more call is made.
-use Rattle.std.proofs.Common.{◌≡◌, ℕ, ◌≤◌, min, List, [], ◌∷◌, ◌++◌, map, length, take, drop, sym, refl, ap, ◌∙◌, ⊎_elim, append_assoc, append-nil, arith, take-append-drop}
+use Rattle.std.proofs.Common.{◌≡◌, ℕ, ◌≤◌, min, List, [], ◌∷◌, ◌++◌, map, length, take, drop, sym, refl, ap, ◌∙◌, append_assoc, append-nil, arith, take-append-drop}
 use lib.ListN.{length-map}
-use Rattle.std.proofs.lemmas.List.{take_all, drop_all, take-map, drop-map, map-append, length-take-le}
-use Rattle.std.proofs.lemmas.Bool.{cases_lt}
+use Rattle.std.proofs.lemmas.List.{take-map, drop-map, map-append, length-take-le, take_min}
 use Rattle.meaning.specs.declared.Piece.{Piece}
 use Rattle.meaning.specs.Runs.{Answer, refused, numbered, listed, unread, played}
 use Rattle.meaning.specs.Asked.{Asked, ask_take, ask_strike, ask_build, ask_read, ask_play, dealt, gathered}
@@ -64,19 +63,6 @@ cells_asked classed Strike left = omega arith
 cells_asked classed Build left = omega arith
 cells_asked classed (Read extent room) left = refl
 cells_asked classed (Play extent) left = omega arith
-
--- no more cells than there are
-pub take_min : {X : Type 0} (n : ℕ) (xs : List X) → take (min n (length xs)) xs ≡ take n xs
-take_min n xs =
-    ⊎_elim (λ h. let e : min n (length xs) ≡ n = omega arith in ap (λ k. take k xs) e)
-    (λ h. let e : min n (length xs) ≡ length xs = omega arith in ap (λ k. take k xs) e ∙ take_all (length xs) xs (omega arith) ∙ sym (take_all n xs h))
-    (cases_lt n (length xs))
-
-pub drop_min : {X : Type 0} (n : ℕ) (xs : List X) → drop (min n (length xs)) xs ≡ drop n xs
-drop_min n xs =
-    ⊎_elim (λ h. let e : min n (length xs) ≡ n = omega arith in ap (λ k. drop k xs) e)
-    (λ h. let e : min n (length xs) ≡ length xs = omega arith in ap (λ k. drop k xs) e ∙ drop_all (length xs) xs (omega arith) ∙ sym (drop_all n xs h))
-    (cases_lt n (length xs))
 
 -- the calls that are made, of all
 pub asked_all : {X Y Z W : Type 0} (f : X → Y) (g : Z → W) (calls : List X) (answers : List Z) (n : ℕ) → n ≡ min (length calls) (length answers)

@@ -1,13 +1,13 @@
 -- What holds of a run after any number of its calls.
 use Rattle.std.proofs.Common.{◌≡◌, ℕ, ◌+◌, ◌-◌, ◌≤◌, min, List, [], ◌∷◌, ◌++◌, map, length, take, drop, sym, refl, ap, ◌∙◌, subst, append_assoc, arith, length-append, length-drop, take-append-drop, length-take}
 use lib.ListN.{length-map}
-use Rattle.std.proofs.lemmas.List.{map-append, take_at, drop_at, drop-drop}
+use Rattle.std.proofs.lemmas.List.{map-append, take_at, drop_at, drop-drop, take_min, drop_min}
 use Rattle.meaning.specs.declared.Piece.{Piece}
 use Rattle.meaning.specs.Doers.{Given, Rule, Leads, stays}
-use Rattle.meaning.specs.Runs.{Answer, Account, fresh, Plate, Opens, Called, Run, opened, then}
+use Rattle.meaning.specs.Runs.{Call, Answer, Account, fresh, Plate, Opens, Called, Run, opened, then, Kept}
 use Rattle.meaning.specs.Asked.{Asked, ask_take, ask_strike, ask_build, ask_read, ask_play, dealt, gathered, Reply, told, Ran}
 use Rattle.runs.specs.Asking.{plate_of, lent, Left, Made}
-use Rattle.runs.proofs.Dealing.{room_of, left_of, dealt_more, left_more, gathered_more, take_min, drop_min}
+use Rattle.runs.proofs.Dealing.{room_of, left_of, dealt_more, left_more, gathered_more}
 
 -- the calls so far, with what they told, the cells of the lists up to `used`, and the doer's state
 pub record Running (count : ℕ) {S : Type 0} (rule : Rule S) (first : S) (plate : Plate) (start : Account) (asked : List Asked) (lists : List Piece) (replies : List Reply)
@@ -35,6 +35,22 @@ part_listed (ask_play extent) answer [] part' h l = l.0 ∙ sym l.1
 part_listed (ask_play extent) answer (p ∷ part) part' h l = absurd (omega arith)
 
 module _ (count : ℕ) {S : Type 0} (rule : Rule S) (first : S) where
+  -- a run on the plate that was opened is kept
+  pub run_kept : {plate : Plate} {moves sets zero_moves zero_sets moves' sets' : List ℕ} {calls : List Call} {all : List Answer} {history : List Given} {after : Account} {s : S}
+      → Opens count moves sets plate zero_moves zero_sets → Run count rule first plate (fresh zero_moves zero_sets) calls all after → Leads rule first history s
+      → (after.history ≡ history) × (moves' ≡ after.moves) × (sets' ≡ after.sets) → Kept count rule first moves sets calls all moves' sets' s
+  run_kept {plate} {zero_moves = zero_moves} {zero_sets} {after = after} {s} opening run leads same = record {
+    plate = plate;
+    zero_moves = zero_moves;
+    zero_sets = zero_sets;
+    opening = opening;
+    account = after;
+    run = run;
+    same_moves = same.1;
+    same_sets = same.2;
+    leads = subst (λ h. Leads rule first h s) (sym same.0) leads;
+  }
+
   -- before the first call
   pub running_none : (plate : Plate) (moves sets : List ℕ) (lists : List Piece) (after : List Given → Account) → after [] ≡ fresh moves sets
       → Running count rule first plate (fresh moves sets) [] lists [] after first 0 lists
@@ -102,17 +118,7 @@ module _ (count : ℕ) {S : Type 0} (rule : Rule S) (first : S) where
       let cells : used ≡ length (gathered end.all) = omega (arith, ap length end.written, length-take used lists', end.within) in
       record {
         all = end.all;
-        kept = record {
-          plate = plate;
-          zero_moves = zero_moves;
-          zero_sets = zero_sets;
-          opening = opening;
-          account = after end.history;
-          run = subst (λ qs. Run count rule first plate (fresh zero_moves zero_sets) (dealt qs lists) end.all (after end.history)) all_Asked end.run;
-          same_moves = (same end.history).1;
-          same_sets = (same end.history).2;
-          leads = subst (λ h. Leads rule first h s) (sym (same end.history).0) end.leads;
-        };
+        kept = subst (λ qs. Kept count rule first moves sets (dealt qs lists) end.all moves' sets' s) all_Asked (run_kept opening end.run end.leads (same end.history));
         same_answers = all_answered ∙ ap (λ rs. rs ++ drop (length replies) answers) end.replied ∙ ap (λ n. map told end.all ++ drop n answers) many;
         same_lists = sym (take-append-drop used lists') ∙ ap (λ l. l ++ drop used lists') end.written ∙ ap (λ l. gathered end.all ++ l) end.behind
             ∙ ap (λ n. gathered end.all ++ drop n lists) cells;

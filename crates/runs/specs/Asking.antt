@@ -10,8 +10,8 @@ use Rattle.sheet.specs.Refusals.{reported}
 use Rattle.reading.specs.Answers.{why_number}
 use Rattle.runs.specs.declared.calling.Call.{Call as Asks}
 use Rattle.runs.specs.declared.calling.Call.TheVariants.{Take, Strike, Build, Read as Reads, Play}
-use Rattle.runs.specs.declared.calling.Answer.{Answer as Tells}
-use Rattle.runs.specs.declared.calling.Answer.TheVariants.{Refused, Number, Read, Played}
+use Rattle.runs.specs.declared.calling.Reply.{Reply as Tells}
+use Rattle.runs.specs.declared.calling.Reply.TheVariants.{Number, Read, Played}
 
 -- what a call asks, its extent by the classes of its symbols
 abbrev pub asked_of : {A : Type 0} → (classed : A → ℕ) → Asks A → Asked
@@ -29,24 +29,19 @@ cells_of Build left = 0
 cells_of (Reads extent room) left = min room left
 cells_of (Play extent) left = 0
 
--- what take, strike and build answer
-abbrev pub number_answer : Result ℕ Refusal → Tells
-number_answer (Ok n) = Number n
-number_answer (Err f) = Refused f
-
 -- what an answer tells, by numbers
-abbrev pub reply_of : Tells → Reply
-reply_of (Refused f) = no_for (reported f)
-reply_of (Number n) = number_of n
-reply_of (Read pieces place why) = read_to pieces place (why_number why)
-reply_of (Played pieces place codes why) = played_to pieces place codes (why_number why)
+abbrev pub reply_of : Result Tells Refusal → Reply
+reply_of (Ok (Number n)) = number_of n
+reply_of (Ok (Read pieces place why)) = read_to pieces place (why_number why)
+reply_of (Ok (Played pieces place codes why)) = played_to pieces place codes (why_number why)
+reply_of (Err f) = no_for (reported f)
 
 -- what an answer tells of a read, with the list as the read leaves it
-abbrev pub with_list : List Piece → Tells → Answer
-with_list list (Refused f) = unread list (reported f)
-with_list list (Number n) = numbered n
-with_list list (Read pieces place why) = listed list pieces place (why_number why)
-with_list list (Played pieces place codes why) = played pieces place codes (why_number why)
+abbrev pub with_list : List Piece → Result Tells Refusal → Answer
+with_list list (Ok (Number n)) = numbered n
+with_list list (Ok (Read pieces place why)) = listed list pieces place (why_number why)
+with_list list (Ok (Played pieces place codes why)) = played pieces place codes (why_number why)
+with_list list (Err f) = unread list (reported f)
 
 -- a plate, by the count that its desk has: shut at 0
 abbrev pub plate_of : (count : ℕ) → Plate

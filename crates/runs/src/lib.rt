@@ -4,5 +4,5 @@
 mod calling;
 mod running;
 
-pub use calling::{Answer, Call};
+pub use calling::{Answer, Call, Reply};
 pub use running::run;

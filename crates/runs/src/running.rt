@@ -1,13 +1,13 @@
-ghost use Rattle.std.specs.Prelude.{◌≡◌, ◌≤◌, min, List, map, length, drop, ◌≢◌};
+ghost use Rattle.std.specs.Prelude.{◌≡◌, ◌≤◌, min, List, map, length, drop, Err, ◌≢◌};
 ghost use Rattle.meaning.specs.Alphabets.{seen};
 ghost use Rattle.meaning.specs.Doers.{Given, Leads};
 ghost use Rattle.meaning.specs.Runs.{Listed};
 ghost use Rattle.meaning.specs.Asked.{ask_play, Ran};
 ghost use Rattle.meaning.specs.declared.Piece.{Piece as Cell};
-ghost use Rattle.plate.specs.Desks.{account_of};
-ghost use Rattle.runs.specs.Asking.{number_answer, cells_of, asked_of, reply_of, with_list, Made};
+ghost use Rattle.plate.specs.Plates.{account, SameMemory};
+ghost use Rattle.runs.specs.Asking.{cells_of, asked_of, reply_of, with_list, Made};
 
-use crate::calling::{Answer, Call};
+use crate::calling::{Answer, Call, Reply};
 use doers::Doer;
 use meaning::Piece;
 use plate::Plate;
@@ -15,32 +15,17 @@ use playing::play;
 use reading::read;
 use sheet::{Alphabet, Refusal};
 
-fn number(answer: Result<usize, Refusal>) -> Answer
-    ensures { result ≡ number_answer answer }
-{
-    match answer {
-        Ok(n) => Answer::Number(n),
-        Err(refusal) => Answer::Refused(refusal),
-    }
-}
-
 fn read_into<A: Alphabet>(plate: &Plate, extent: &[A], list: &mut [Piece]) -> Answer
-    ensures away { (plate.now.desk.count ≢ A.Alphabet.count) → (result ≡ Answer.Refused Refusal.NotOpen) × (list.new ≡ list.old) }
-    ensures heard { plate.now.desk.count ≡ A.Alphabet.count → (h : List Given) → Listed (account_of plate.now.desk plate.now.moves.now plate.now.sets.now h) (seen A.Alphabet.classed extent.now) list.old (with_list list.new result) }
+    ensures away { (plate.now.desk.count ≢ A.COUNT) → (result ≡ Err Refusal.NotOpen) × (list.new ≡ list.old) }
+    ensures heard { plate.now.desk.count ≡ A.COUNT → (h : List Given) → Listed (account plate.now h) (seen A.classed extent.now) list.old (with_list list.new result) }
 {
-    match read(plate, extent, list) {
-        Ok((pieces, place, why)) => Answer::Read(pieces, place, why),
-        Err(refusal) => Answer::Refused(refusal),
-    }
+    read(plate, extent, list).map(Reply::from)
 }
 
 fn play_to<A: Alphabet, D: Doer>(plate: &Plate, extent: &[A], doer: &mut D) -> Answer
-    ensures { (first : D.Doer.State) (h : List Given) (list : List Cell) → Leads D.Doer.rule first h (D.Doer.state doer.old) → Made A.Alphabet.count D.Doer.rule first plate.now.desk.count (account_of plate.now.desk plate.now.moves.now plate.now.sets.now h) (ask_play (seen A.Alphabet.classed extent.now)) list (reply_of result) (account_of plate.now.desk plate.now.moves.now plate.now.sets.now) list (D.Doer.state doer.new) }
+    ensures { (first : D.State) (h : List Given) (list : List Cell) → Leads D.rule first h (D.state doer.old) → Made A.COUNT D.rule first plate.now.desk.count (account plate.now h) (ask_play (seen A.classed extent.now)) list (reply_of result) (account plate.now) list (D.state doer.new) }
 {
-    match play(plate, extent, doer) {
-        Ok((pieces, place, codes, why)) => Answer::Played(pieces, place, codes, why),
-        Err(refusal) => Answer::Refused(refusal),
-    }
+    play(plate, extent, doer).map(Reply::from)
 }
 
 // Makes one call; a read writes into the list.
@@ -50,14 +35,15 @@ fn make<A: Alphabet, D: Doer>(
     call: &Call<'_, A>,
     list: &mut [Piece],
 ) -> Answer
-    ensures made { (first : D.Doer.State) (h : List Given) → Leads D.Doer.rule first h (D.Doer.state doer.old) → Made A.Alphabet.count D.Doer.rule first plate.old.desk.count (account_of plate.old.desk plate.old.moves.now plate.old.sets.now h) (asked_of A.Alphabet.classed call.now) list.old (reply_of result) (account_of plate.new.desk plate.new.moves.now plate.new.sets.now) list.new (D.Doer.state doer.new) }
+    ensures made { (first : D.State) (h : List Given) → Leads D.rule first h (D.state doer.old) → Made A.COUNT D.rule first plate.old.desk.count (account plate.old h) (asked_of A.classed call.now) list.old (reply_of result) (account plate.new) list.new (D.state doer.new) }
     ensures counted { plate.new.desk.count ≡ plate.old.desk.count }
-    ensures names { (plate.new.moves.ghost_name ≡ plate.old.moves.ghost_name) × (plate.new.sets.ghost_name ≡ plate.old.sets.ghost_name) }
+    ensures names { SameMemory plate.old plate.new }
 {
+    // Stays: no switch on steps but the list of the calls that the law is about.
     match *call {
-        Call::Take(line) => number(plate.take::<A>(line)),
-        Call::Strike => number(plate.strike::<A>()),
-        Call::Build => number(plate.build::<A>()),
+        Call::Take(line) => plate.take::<A>(line).map(Reply::Number),
+        Call::Strike => plate.strike::<A>().map(Reply::Number),
+        Call::Build => plate.build::<A>().map(Reply::Number),
         Call::Read(extent, _) => read_into(plate, extent, list),
         Call::Play(extent) => play_to(plate, extent, doer),
     }
@@ -84,15 +70,16 @@ pub fn run<A: Alphabet, D: Doer>(
     lists: &mut [Piece],
     answers: &mut [Answer],
 ) -> usize
-    ensures law { Ran A.Alphabet.count D.Doer.rule (D.Doer.state doer.old) moves.old sets.old (map (asked_of A.Alphabet.classed) calls.now) lists.old (map reply_of answers.old) moves.new sets.new (D.Doer.state doer.new) lists.new (map reply_of answers.new) }
+    ensures law { Ran A.COUNT D.rule (D.state doer.old) moves.old sets.old (map (asked_of A.classed) calls.now) lists.old (map reply_of answers.old) moves.new sets.new (D.state doer.new) lists.new (map reply_of answers.new) }
     ensures made { result ≡ min (length calls.now) (length answers.old) }
     ensures answers { drop result answers.new ≡ drop result answers.old }
 {
     let mut plate = Plate::open::<A>(moves, sets);
     let made = calls.len().min(answers.len());
     let mut used = 0;
-    for i in 0..made {
-        let call = &calls[i];
+    // Stays: an answer is written by its index, since after a loop over `calls.iter().zip(answers.iter_mut())` the proof knew none of the answers; and `used` is how many cells of `lists`
+    // reads were given, which the law counts too.
+    for (i, call) in calls[..made].iter().enumerate() {
         let end = used + room(call, lists.len() - used);
         answers[i] = make(&mut plate, doer, call, &mut lists[used..end]);
         used = end;

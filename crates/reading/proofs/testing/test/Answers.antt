@@ -1,62 +1,48 @@
-use Rattle.std.proofs.Common.{length, Err, refl, ap}
 use Rattle.std.proofs.lemmas.Result.{err_from_is_err_and}
 use Rattle.reading.specs.Answers.{unready, no_line, few_cells}
-use Rattle.reading.proofs.Listing.{away_out}
 use Rattle.reading.proofs.Verdicts.{unready_told, no_line_told, few_cells_told, word_told, codes_told}
 use Rattle.reading.proofs.testing.test.Goals as goal
 
-pub returns-in_err-ready : goal.returns-in_err-ready
-returns-in_err-ready g c =
+pub returns-in_err-ready-clause-heard : goal.returns-in_err-ready-clause-heard
+returns-in_err-ready-clause-heard g c e h =
     let p = err_from_is_err_and c.from_residual.result c.from_residual.ensures.1 in
-    let u = c.in_err-ready.ensures in
-    rw (p.1, p.2) (record {
-      away = λ n. ap Err (away_out g.A.Alphabet.count c.args.plate.now.desk (length c.args.extent.now) _ u n);
-      heard = λ e h. unready_told c.args.plate.now g.A.Alphabet.classed c.args.extent.now c.args.line c.args.codes.now h g.A.Alphabet.count _ e u;
-      cases = unready u;
-      codes = refl;
-    })
+    rw (p.1, p.2) (unready_told c.args.plate.now g.A.Alphabet.classed c.args.extent.now c.args.line c.args.codes.now h g.A.Alphabet.COUNT _ e c.in_err-ready.ensures)
 
-pub returns-in_default : goal.returns-in_default
-returns-in_default g c =
+pub returns-in_err-ready-clause-cases : goal.returns-in_err-ready-clause-cases
+returns-in_err-ready-clause-cases g c =
+    let p = err_from_is_err_and c.from_residual.result c.from_residual.ensures.1 in
+    rw (p.1, p.2) (unready c.in_err-ready.ensures)
+
+pub returns-in_default-clause-heard : goal.returns-in_default-clause-heard
+returns-in_default-clause-heard g c _ h =
     let r = c.in_ok-ready.ensures in
-    record {
-      away = λ n. absurd (n r.0);
-      heard = λ _ h. no_line_told c.args.plate.now g.A.Alphabet.classed c.args.extent.now c.args.line c.args.codes.now h r.1 r.2 c.in_default.ensures;
-      cases = no_line (record { open_for = r.0; built = r.1; short = r.2 }) c.in_default.ensures;
-      codes = refl;
-    }
+    no_line_told c.args.plate.now g.A.Alphabet.classed c.args.extent.now c.args.line c.args.codes.now h r.1 r.2 c.in_default.ensures
 
-pub returns-then-codes-extent : goal.returns-then-codes-extent
-returns-then-codes-extent g c =
+pub returns-in_default-clause-cases : goal.returns-in_default-clause-cases
+returns-in_default-clause-cases g c =
     let r = c.in_ok-ready.ensures in
-    let s = c.in-Some.ensures in
-    record {
-      away = λ n. absurd (n r.0);
-      heard = λ _ h. few_cells_told c.args.plate.now g.A.Alphabet.classed c.args.extent.now c.args.line c.args.codes.now h r.1 r.2 s.0 c.if-codes-extent.true;
-      cases = few_cells (record { open_for = r.0; built = r.1; short = r.2 }) s.0 c.if-codes-extent.true;
-      codes = refl;
-    }
+    no_line (record { open_for = r.0; built = r.1; short = r.2 }) c.in_default.ensures
 
-pub returns-then-not-is_word : goal.returns-then-not-is_word
-returns-then-not-is_word g c =
+pub returns-then-codes-extent-clause-heard : goal.returns-then-codes-extent-clause-heard
+returns-then-codes-extent-clause-heard g c _ h =
+    let r = c.in_ok-ready.ensures in
+    few_cells_told c.args.plate.now g.A.Alphabet.classed c.args.extent.now c.args.line c.args.codes.now h r.1 r.2 c.in-Some.ensures.0 c.if-codes-extent.true
+
+pub returns-then-codes-extent-clause-cases : goal.returns-then-codes-extent-clause-cases
+returns-then-codes-extent-clause-cases g c =
+    let r = c.in_ok-ready.ensures in
+    few_cells (record { open_for = r.0; built = r.1; short = r.2 }) c.in-Some.ensures.0 c.if-codes-extent.true
+
+pub returns-then-not-is_word-clause-heard : goal.returns-then-not-is_word-clause-heard
+returns-then-not-is_word-clause-heard g c _ h =
     let r = c.in_ok-ready.ensures in
     let s = c.in-Some.ensures in
-    record {
-      away = λ n. absurd (n r.0);
-      heard = λ _ h. word_told c.args.plate.now g.A.Alphabet.classed c.args.extent.now c.args.line c.args.codes.now h r.1 r.2 s.0 c.in-Some.entry.now s.1
-          c.if-codes-extent.false c.is_word.result c.is_word.ensures c.if-not-is_word.true;
-      cases = (record { open_for = r.0; built = r.1; short = r.2 }, s.0, c.if-codes-extent.false);
-      codes = refl;
-    }
+    word_told c.args.plate.now g.A.Alphabet.classed c.args.extent.now c.args.line c.args.codes.now h r.1 r.2 s.0 c.in-Some.entry.now s.1 c.if-codes-extent.false c.is_word.result
+    c.is_word.ensures c.if-not-is_word.true
 
-pub returns : goal.returns
-returns g c =
+pub returns-clause-heard : goal.returns-clause-heard
+returns-clause-heard g c _ h =
     let r = c.in_ok-ready.ensures in
     let s = c.in-Some.ensures in
-    record {
-      away = λ n. absurd (n r.0);
-      heard = λ _ h. codes_told c.args.plate.now g.A.Alphabet.classed c.args.extent.now c.args.line c.args.codes.now h r.1 r.2 s.0 c.in-Some.entry.now s.1
-          c.if-codes-extent.false c.is_word.result c.is_word.ensures c.if-not-is_word.false c.write_codes.new.codes c.write_codes.ensures.beyond c.write_codes.ensures.word;
-      cases = (record { open_for = r.0; built = r.1; short = r.2 }, s.0, c.if-codes-extent.false);
-      codes = c.write_codes.ensures.beyond;
-    }
+    codes_told c.args.plate.now g.A.Alphabet.classed c.args.extent.now c.args.line c.args.codes.now h r.1 r.2 s.0 c.in-Some.entry.now s.1 c.if-codes-extent.false c.is_word.result
+    c.is_word.ensures c.if-not-is_word.false c.write_codes.new.codes c.write_codes.ensures.beyond c.write_codes.ensures.word

@@ -1,10 +1,10 @@
-use Rattle.std.proofs.Common.{◌+◌, ◌<◌, [], ◌∷◌, length, take, sym, refl, ap, ◌∙◌, arith, length-set}
+use Rattle.std.proofs.Common.{◌+◌, ◌<◌, [], ◌∷◌, length, take, refl, ap, ◌∙◌, arith, length-set}
 use lib.ListN.{length-map}
 use Rattle.std.proofs.lemmas.List.{drop-set-lt, take_more_set}
 use Rattle.meaning.specs.Alphabets.{seen}
 use Rattle.sheet.proofs.Entries.{record_clear as clear, record_ranged as ranged}
 use Rattle.reading.proofs.Classes.{class_at, class_more}
-use Rattle.reading.proofs.Coding.{moved_on, code_written, codes_written}
+use Rattle.reading.proofs.Coding.{moved_on, code_written}
 use Rattle.reading.proofs.testing.write_codes.Goals as goal
 
 pub loop-i-init : goal.loop-i-init
@@ -26,13 +26,3 @@ loop-i-preserved g c =
                 before.0 (λ p low. c.code.ensures x p m below low) (before.1 w o e),
           ),
     )
-
-pub returns : goal.returns
-returns g c =
-    let n = length c.args.extent.now in
-    let room : n + 1 < length c.loop-i.codes = omega (arith, c.requires, c.loop-i.auto.codes, length-set c.args.codes.now 0 c.open.result) in
-    record {
-      beyond = drop-set-lt (n + 2) c.loop-i.codes (n + 1) c.close.result (omega arith) ∙ c.loop-i.invariant.0 ∙ drop-set-lt (n + 2) c.args.codes.now 0 c.open.result (omega arith);
-      word = λ x m w o e. codes_written x w (seen g.A.Alphabet.classed c.args.extent.now) e n c.loop-i.i c.close.result c.loop-i.codes
-          (sym (length-map c.args.extent.now g.A.Alphabet.classed)) c.loop-i-test.false c.loop-i.auto.i-end room (c.close.ensures x m) ((c.loop-i.invariant.1 x m).1 w o e);
-    }
