@@ -144,5 +144,5 @@ fn tape(rt: HostRuntime) {
         assert!(rt; !tape.give(5, 3));
         assert_eq!(rt; tape.held(), 2);
     }
-    assert!(rt; cells[0] == 65535 && cells[1] == 0);
+    assert_eq!(rt; cells, [65535, 0]);
 }

@@ -6,6 +6,10 @@ mod doing;
 #[cfg(test)]
 mod lines;
 #[cfg(test)]
+mod memory;
+#[cfg(test)]
 mod plates;
 #[cfg(test)]
 mod readings;
+#[cfg(test)]
+mod refusals;

@@ -1,70 +1,74 @@
 // Memory that is too small, shut plates, and plates of another alphabet.
-use crate::lines::told;
+use crate::memory::{MOVES, PIECE_MOVES, SETS};
 use plate::Plate;
 use reading::Piece;
 use sheet::Refusal;
 
 const LINE: &[u8] = b"(rule 0 0 (sym 0 8 0))";
 
-fn number(answer: Result<(), Refusal>) -> u8 {
-    match answer {
-        Ok(()) => 0,
-        Err(refusal) => refusal.number(),
-    }
-}
-
 #[test]
 fn memory(rt: HostRuntime) {
-    let moves = [0u16; 16384];
-    let sets = [0u64; 512];
-    assert_eq!(rt; number(Plate::check::<u8>(&moves, &sets)), 0);
-    assert_eq!(rt; number(Plate::check::<u8>(&moves[0..16383], &sets)), 7);
-    assert_eq!(rt; number(Plate::check::<u8>(&moves, &sets[0..511])), 7);
-    assert_eq!(rt; number(Plate::check::<Piece>(&moves[0..576], &sets)), 0);
-    assert_eq!(rt; number(Plate::check::<Piece>(&moves[0..575], &sets)), 7);
+    assert_eq!(rt; [MOVES, PIECE_MOVES, SETS], [16384, 576, 512]);
+    let moves = [0u16; MOVES];
+    let sets = [0u64; SETS];
+    let few_moves = &moves[..MOVES - 1];
+    let few_sets = &sets[..SETS - 1];
+    let piece_moves = &moves[..PIECE_MOVES];
+    let few_piece_moves = &moves[..PIECE_MOVES - 1];
+    assert_eq!(rt; Plate::check::<u8>(&moves, &sets), Ok(()));
+    assert_eq!(rt;
+        Plate::check::<u8>(few_moves, &sets),
+        Err(Refusal::TooLittleMemory)
+    );
+    assert_eq!(rt;
+        Plate::check::<u8>(&moves, few_sets),
+        Err(Refusal::TooLittleMemory)
+    );
+    assert_eq!(rt; Plate::check::<Piece>(piece_moves, &sets), Ok(()));
+    assert_eq!(rt;
+        Plate::check::<Piece>(few_piece_moves, &sets),
+        Err(Refusal::TooLittleMemory)
+    );
 }
 
 #[test]
 fn shut(rt: HostRuntime) {
-    let mut moves = [1u16; 16383];
-    let mut sets = [1u64; 512];
+    let mut moves = [1u16; MOVES - 1];
+    let mut sets = [1u64; SETS];
     {
         let mut plate = Plate::open::<u8>(&mut moves, &mut sets);
-        assert_eq!(rt; told(plate.take::<u8>(LINE)), (25, 0, 0));
-        assert_eq!(rt; told(plate.strike::<u8>()), (25, 0, 0));
-        assert_eq!(rt; told(plate.build::<u8>()), (25, 0, 0));
+        assert_eq!(rt; plate.take::<u8>(LINE), Err(Refusal::NotOpen));
+        assert_eq!(rt; plate.strike::<u8>(), Err(Refusal::NotOpen));
+        assert_eq!(rt; plate.build::<u8>(), Err(Refusal::NotOpen));
     }
-    assert!(rt; moves[0] == 1 && sets[0] == 1);
+    assert_eq!(rt; moves[0], 1);
+    assert_eq!(rt; sets[0], 1);
 }
 
 #[test]
 fn opened(rt: HostRuntime) {
-    let mut moves = [1u16; 577];
-    let mut sets = [1u64; 513];
+    let mut moves = [1u16; PIECE_MOVES + 1];
+    let mut sets = [1u64; SETS + 1];
     {
         let _plate = Plate::open::<Piece>(&mut moves, &mut sets);
     }
-    assert!(rt;
-        moves[0] == 0
-            && moves[575] == 0
-            && moves[576] == 1
-            && sets[0] == 0
-            && sets[511] == 0
-            && sets[512] == 1
-    );
+    assert!(rt; moves[..PIECE_MOVES].iter().all(|cell| *cell == 0));
+    assert_eq!(rt; moves[PIECE_MOVES], 1);
+    assert!(rt; sets[..SETS].iter().all(|cell| *cell == 0));
+    assert_eq!(rt; sets[SETS], 1);
 }
 
 #[test]
 fn other_alphabet(rt: HostRuntime) {
-    let mut moves = [0u16; 576];
-    let mut sets = [0u64; 512];
+    let mut moves = [0u16; PIECE_MOVES];
+    let mut sets = [0u64; SETS];
     let mut plate = Plate::open::<Piece>(&mut moves, &mut sets);
-    assert_eq!(rt; told(plate.take::<u8>(LINE)), (25, 0, 0));
+    assert_eq!(rt; plate.take::<u8>(LINE), Err(Refusal::NotOpen));
     assert_eq!(rt;
-        told(plate.take::<Piece>(b"(rule 0 0 (sym 0 9 0))")),
-        (4, 18, 0)
+        plate.take::<Piece>(b"(rule 0 0 (sym 0 9 0))"),
+        Err(Refusal::OutOfRange { byte: 18 })
     );
-    assert_eq!(rt; told(plate.take::<Piece>(LINE)), (0, 0, 0));
-    assert_eq!(rt; told(plate.build::<u8>()), (25, 0, 0));
-    assert_eq!(rt; told(plate.build::<Piece>()), (0, 2, 0));
+    assert_eq!(rt; plate.take::<Piece>(LINE), Ok(0));
+    assert_eq!(rt; plate.build::<u8>(), Err(Refusal::NotOpen));
+    assert_eq!(rt; plate.build::<Piece>(), Ok(2));
 }

@@ -10,14 +10,7 @@ use std::io::BufRead;
 fn print_verdict(rt: &HostRuntime, answer: Result<usize, Refusal>) -> io::Result<()> {
     match answer {
         Ok(_) => println!(rt; "taken"),
-        Err(refusal) => {
-            let (one, two) = refusal.details();
-            println!(rt;
-                "refused {} {} {one} {two}",
-                refusal.number(),
-                refusal.layer()
-            )
-        }
+        Err(refusal) => println!(rt; "refused {refusal}"),
     }
 }
 

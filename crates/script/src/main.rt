@@ -1,35 +1,41 @@
+// Makes the calls of a script, run by run, once on an order slip and once on a tape, and prints every answer and what the doers hold then.
+// A line is a call: `take LINE`, `strike`, `build`, `read ROOM TEXT`, `long ROOM LENGTH` (a read of as many digits 1), `play TEXT`; an empty line ends a run.
 #![tactic(auto)]
 
 ghost use Rattle.std.specs.Prelude.{◌≤◌, length};
-// Makes the calls of a script, run by run, once on an order slip and once on a tape, and prints every answer and what the doers hold then.
-// A line is a call: `take LINE`, `strike`, `build`, `read ROOM TEXT`, `long ROOM LENGTH` (a read of as many digits 1), `play TEXT`; an empty line ends a run.
+
 use doers::{Doer, Slip, Tape};
 use meaning::Piece;
-use runs::{Answer, Call, run};
-use std::alloc::{AllocError, Global};
+use positions::{MOST_CLASSES, MOST_LINES, MOST_STATES};
+use runs::{Answer, Call, Reply, run};
 use std::io;
 
 const MOST_ROOM: usize = 64;
 
 const MOST_LENGTH: usize = 40_000;
 
+// the cells of the lists of a run's reads
+const LISTS: usize = 12;
+
+// what a cell of the lists holds that no read wrote: no line has its number
+// Stays: a piece and no `None`, since the lists that `run` is lent are of pieces.
+const UNWRITTEN: Piece = Piece {
+    line: MOST_LINES,
+    place: 0,
+    len: 0,
+};
+
 // The number that a word is, at most `most`, or 0.
 fn number(word: &str, most: usize) -> usize
     ensures { result ≤ most }
 {
-    match word.parse::<usize>() {
-        Ok(n) => n.min(most),
-        Err(_) => 0,
-    }
+    word.parse().map_or(0, |n: usize| n.min(most))
 }
 
 fn call<'a>(line: &'a str, ones: &'a [u8]) -> Option<Call<'a, u8>>
     requires { 40000 ≤ length ones.now }
 {
-    let (word, rest) = match line.split_once(' ') {
-        Some(parts) => parts,
-        None => (line, ""),
-    };
+    let (word, rest) = line.split_once(' ').unwrap_or((line, ""));
     match word {
         "take" => Some(Call::Take(rest.as_bytes())),
         "strike" => Some(Call::Strike),
@@ -41,8 +47,8 @@ fn call<'a>(line: &'a str, ones: &'a [u8]) -> Option<Call<'a, u8>>
         }
         "long" => {
             let (room, length) = rest.split_once(' ')?;
-            let n = number(length, MOST_LENGTH);
-            Some(Call::Read(&ones[0..n], number(room, MOST_ROOM)))
+            let ones = &ones[..number(length, MOST_LENGTH)];
+            Some(Call::Read(ones, number(room, MOST_ROOM)))
         }
         _ => None,
     }
@@ -50,19 +56,11 @@ fn call<'a>(line: &'a str, ones: &'a [u8]) -> Option<Call<'a, u8>>
 
 fn print_answer(rt: &HostRuntime, answer: Answer) -> io::Result<()> {
     match answer {
-        Answer::Refused(refusal) => {
-            let (one, two) = refusal.details();
-            println!(rt;
-                "refused {} {} {one} {two}",
-                refusal.number(),
-                refusal.layer()
-            )
-        }
-        Answer::Number(n) => println!(rt; "number {n}"),
-        Answer::Read(pieces, place, why) => println!(rt; "read {pieces} {place} {}", why.number()),
-        Answer::Played(pieces, place, codes, why) => println!(rt;
-            "played {pieces} {place} {codes} {}",
-            why.number()
+        Err(refusal) => println!(rt; "refused {refusal}"),
+        Ok(Reply::Number(n)) => println!(rt; "number {n}"),
+        Ok(Reply::Read(pieces, place, why)) => println!(rt; "read {pieces} {place} {why}"),
+        Ok(Reply::Played(pieces, place, codes, why)) => println!(rt;
+            "played {pieces} {place} {codes} {why}"
         ),
     }
 }
@@ -70,22 +68,16 @@ fn print_answer(rt: &HostRuntime, answer: Answer) -> io::Result<()> {
 // Makes the calls on a new plate and the doer, and prints the answers and the cells of the lists.
 fn make<D: Doer>(rt: &HostRuntime, calls: &[Call<'_, u8>], doer: &mut D) -> io::Result<()> {
     let heap = rt.alloc();
-    let mut moves = vec![in heap; 0u16; 16384]?;
-    let mut sets = vec![in heap; 0u64; 512]?;
-    let mut lists = vec![in heap; Piece {
-        line: 9,
-        place: 0,
-        len: 0
-    }; 12]?;
-    let mut answers = vec![in heap; Answer::Number(0); calls.len()]?;
+    let mut moves = vec![in heap; 0u16; MOST_STATES * MOST_CLASSES]?;
+    let mut sets = vec![in heap; 0u64; MOST_STATES * MOST_LINES]?;
+    let mut lists = vec![in heap; UNWRITTEN; LISTS]?;
+    let mut answers = vec![in heap; Ok(Reply::Number(0)); calls.len()]?;
     run(&mut moves, &mut sets, doer, calls, &mut lists, &mut answers);
     for answer in &answers {
         print_answer(rt, *answer)?;
     }
-    for piece in &lists {
-        if piece.line < 9 {
-            println!(rt; "piece {} {} {}", piece.line, piece.place, piece.len)?;
-        }
+    for piece in lists.iter().filter(|piece| **piece != UNWRITTEN) {
+        println!(rt; "piece {piece}")?;
     }
     Ok(())
 }
@@ -93,10 +85,8 @@ fn make<D: Doer>(rt: &HostRuntime, calls: &[Call<'_, u8>], doer: &mut D) -> io::
 fn on_slip(rt: &HostRuntime, calls: &[Call<'_, u8>]) -> io::Result<()> {
     let mut slip = Slip::new();
     make(rt, calls, &mut slip)?;
-    for r in 0..8 {
-        if let Some(value) = slip.register(r) {
-            print!(rt; "{value} ")?;
-        }
+    for value in slip.registers() {
+        print!(rt; "{value} ")?;
     }
     println!(rt; "on the slip")
 }

@@ -5,31 +5,17 @@ mod report;
 #[cfg(test)]
 mod reports;
 
-use report::{MOST_INPUT, report};
+use report::report;
 use std::io;
 use std::io::Read;
 
-// At most the first 60,000 bytes of standard input.
-fn input(rt: &HostRuntime) -> io::Result<Vec<u8>> {
-    let mut bytes = vec![in rt.alloc(); 0; MOST_INPUT]?;
-    let mut stdin = rt.stdin();
-    let mut len = 0;
-    for _ in 0..MOST_INPUT {
-        if len >= bytes.len() {
-            break;
-        }
-        let n = stdin.read(&mut bytes[len..])?;
-        if n == 0 {
-            break;
-        }
-        len += n;
-    }
-    bytes.truncate(len);
-    Ok(bytes)
-}
+// bytes of standard input that are read
+const MOST_INPUT: u64 = 60_000;
 
 fn main(rt: HostRuntime) -> io::Result<()> {
-    let input = input(&rt)?;
-    let text = report(rt.alloc(), &input)?;
+    let heap = rt.alloc();
+    let mut input = Vec::new(heap);
+    rt.stdin().take(MOST_INPUT).read_to_end(&mut input)?;
+    let text = report(heap, &input)?;
     print!(rt; "{text}")
 }

@@ -1,50 +1,28 @@
 // What the program prints: how a sheet's lines cut an extent and which codes each piece carries, or the first refusal.
-ghost use Rattle.std.specs.Prelude.{◌≤◌, length};
-
 use doers::Tape;
 use meaning::Piece;
 use positions::{LONGEST_EXTENT, MOST_CLASSES, MOST_LINES, MOST_STATES};
-use runs::{Answer, Call, run};
+use runs::{Answer, Call, Reply, run};
 use std::alloc::{AllocError, Global};
 
-// bytes of the input that count
-pub(crate) const MOST_INPUT: usize = 60_000;
-
+// the pieces that are listed
 const LIST: usize = 2_048;
+
 // the codes of the listed pieces: a piece has two more than it has symbols
 const TAPE: usize = LONGEST_EXTENT + 2 * LIST;
-
-// Where the line that begins at `start` ends: at its byte 10, or at the input's end.
-fn line_end(input: &[u8], start: usize) -> usize
-    requires { start ≤ length input.now }
-    ensures { (start ≤ result) × (result ≤ length input.now) }
-{
-    for at in start..input.len() {
-        if input[at] == b'\n' {
-            return at;
-        }
-    }
-    input.len()
-}
 
 // The calls for a sheet and its extent, and how many lines it has: each line is taken, the plate is built, and the extent is read and played.
 fn calls(heap: Global, input: &[u8]) -> Result<(Vec<Call<'_, u8>>, usize), AllocError> {
     let mut calls = Vec::new(heap);
-    let mut start = 0;
-    for _ in 0..MOST_INPUT {
-        let end = line_end(input, start);
-        if end == start {
-            break;
-        }
-        calls.push(Call::Take(&input[start..end]))?;
-        start = if end < input.len() { end + 1 } else { end };
+    // what is behind the lines so far: in the end the empty line and the extent
+    let mut rest = input;
+    let sheet = input.split(|b| *b == b'\n');
+    for line in sheet.take_while(|line| !line.is_empty()) {
+        calls.push(Call::Take(line))?;
+        rest = rest.get(line.len() + 1..).unwrap_or(&[]);
     }
-    let extent = if start < input.len() {
-        &input[start + 1..]
-    } else {
-        &input[input.len()..]
-    };
     let lines = calls.len();
+    let extent = rest.get(1..).unwrap_or(&[]);
     calls.push(Call::Build)?;
     calls.push(Call::Read(extent, LIST))?;
     calls.push(Call::Play(extent))?;
@@ -52,26 +30,16 @@ fn calls(heap: Global, input: &[u8]) -> Result<(Vec<Call<'_, u8>>, usize), Alloc
 }
 
 // One line for each piece, its codes from the tape.
-fn write_pieces(
-    heap: Global,
-    text: &mut String,
-    pieces: &[Piece],
-    tape: &[u16],
-) -> Result<(), AllocError> {
-    let mut at = 0usize;
+fn write_pieces(text: &mut String, pieces: &[Piece], mut tape: &[u16]) -> Result<(), AllocError> {
     for piece in pieces {
-        let end = tape
-            .len()
-            .min(at.saturating_add(piece.len).saturating_add(2));
-        text.push_str(format!(in heap;
-            "piece {} {} {}",
-            piece.line, piece.place, piece.len
-        )?.as_str())?;
-        for code in &tape[at..end] {
-            text.push_str(format!(in heap; " {code}")?.as_str())?;
+        let len = piece.len.saturating_add(2).min(tape.len());
+        let (codes, rest) = tape.split_at(len);
+        write!(text, "piece {piece}")?;
+        for code in codes {
+            write!(text, " {code}")?;
         }
-        text.push_str("\n")?;
-        at = end;
+        writeln!(text)?;
+        tape = rest;
     }
     Ok(())
 }
@@ -87,23 +55,16 @@ fn written(
     let mut text = String::new(heap);
     for (made, answer) in answers.iter().enumerate() {
         match *answer {
-            Answer::Refused(refusal) => {
-                let (one, two) = refusal.details();
-                let taken = made.min(lines);
-                return format!(in heap;
-                    "refused {taken} {} {} {one} {two}\n",
-                    refusal.number(),
-                    refusal.layer()
-                );
+            Err(refusal) => {
+                writeln!(text, "refused {} {refusal}", made.min(lines))?;
+                break;
             }
-            Answer::Read(pieces, place, why) => {
-                if pieces <= list.len() {
-                    write_pieces(heap, &mut text, &list[0..pieces], tape)?;
-                }
-                text.push_str(format!(in heap; "end {place} {}\n", why.number())?.as_str())?;
-                return Ok(text);
+            Ok(Reply::Read(pieces, place, why)) => {
+                write_pieces(&mut text, &list[..pieces.min(list.len())], tape)?;
+                writeln!(text, "end {place} {why}")?;
+                break;
             }
-            Answer::Number(_) | Answer::Played(..) => {}
+            Ok(Reply::Number(_) | Reply::Played(..)) => {}
         }
     }
     Ok(text)
@@ -111,20 +72,11 @@ fn written(
 
 // What is printed for an input: sheet lines, an empty line, and the extent.
 pub(crate) fn report(heap: Global, input: &[u8]) -> Result<String, AllocError> {
-    let input = if input.len() > MOST_INPUT {
-        &input[0..MOST_INPUT]
-    } else {
-        input
-    };
     let (calls, lines) = calls(heap, input)?;
     let mut moves = vec![in heap; 0u16; MOST_STATES * MOST_CLASSES]?;
     let mut sets = vec![in heap; 0u64; MOST_STATES * MOST_LINES]?;
-    let mut list = vec![in heap; Piece {
-        line: 0,
-        place: 0,
-        len: 0
-    }; LIST]?;
-    let mut answers = vec![in heap; Answer::Number(0); calls.len()]?;
+    let mut list = vec![in heap; Piece::default(); LIST]?;
+    let mut answers = vec![in heap; Ok(Reply::Number(0)); calls.len()]?;
     let mut cells = vec![in heap; 0u16; TAPE]?;
     let mut tape = Tape::new(&mut cells);
     run(

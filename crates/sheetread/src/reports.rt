@@ -65,12 +65,10 @@ fn cases(rt: HostRuntime) -> Result<(), Fail> {
     Ok(())
 }
 
-// A sheet of one line, and an extent of n digits.
+// What is printed for a sheet of one line, and an extent of n digits 1.
 fn digits(heap: Global, line: &str, n: usize) -> Result<String, Fail> {
-    let mut input = String::from_str(heap, line)?;
-    for _ in 0..n {
-        input.push_str("1")?;
-    }
+    let digits = "1".repeat(heap, n)?;
+    let input = format!(in heap; "{line}{digits}")?;
     Ok(report(heap, input.as_bytes())?)
 }
 

@@ -4,8 +4,16 @@
 
 use meaning::Piece;
 use plate::Plate;
+use positions::{MOST_CLASSES, MOST_LINES, MOST_POSITIONS, MOST_STATES};
 use sheet::{Alphabet, Refusal};
 use std::io;
+
+// What a sheet's lines are over.
+#[derive(Clone, Copy, PartialEq, Eq, Debug)]
+enum Kind {
+    Bytes,
+    Pieces,
+}
 
 // Takes the lines and builds; the number of states.
 fn built<A: Alphabet>(
@@ -20,16 +28,21 @@ fn built<A: Alphabet>(
     plate.build::<A>()
 }
 
+// The positions of a set, which are numbered from 1.
+// Stays: by the bits of a set cell as docs/PLATES.md tells them; how the engine walks over a set is its own.
+fn print_positions(rt: &HostRuntime, set: u64) -> io::Result<()> {
+    for p in (1..=MOST_POSITIONS).filter(|p| (set >> (*p - 1)) & 1 == 1) {
+        print!(rt; " {p}")?;
+    }
+    Ok(())
+}
+
 // The set cells that are not 0: state, line and positions.
 fn print_sets(rt: &HostRuntime, sets: &[u64]) -> io::Result<()> {
-    for (i, set) in sets.iter().enumerate() {
-        if *set != 0 {
-            print!(rt; "set {} {}", i / 8, i % 8)?;
-            for p in 0..64u32 {
-                if (*set >> p) & 1 == 1 {
-                    print!(rt; " {}", p + 1)?;
-                }
-            }
+    for (state, lines) in sets.chunks(MOST_LINES).enumerate() {
+        for (line, set) in lines.iter().enumerate().filter(|(_, set)| **set != 0) {
+            print!(rt; "set {state} {line}")?;
+            print_positions(rt, *set)?;
             println!(rt; "")?;
         }
     }
@@ -37,12 +50,10 @@ fn print_sets(rt: &HostRuntime, sets: &[u64]) -> io::Result<()> {
 }
 
 // The move cells that are not 0: state, class and next state.
-fn print_moves(rt: &HostRuntime, moves: &[u16], count: usize) -> io::Result<()> {
-    if count > 0 {
-        for (i, cell) in moves.iter().enumerate() {
-            if *cell > 0 {
-                println!(rt; "move {} {} {}", i / count, i % count, *cell - 1)?;
-            }
+fn print_moves<A: Alphabet>(rt: &HostRuntime, moves: &[u16]) -> io::Result<()> {
+    for (state, row) in moves.chunks(A::COUNT).enumerate() {
+        for (class, cell) in row.iter().enumerate().filter(|(_, cell)| **cell > 0) {
+            println!(rt; "move {state} {class} {}", *cell - 1)?;
         }
     }
     Ok(())
@@ -50,33 +61,32 @@ fn print_moves(rt: &HostRuntime, moves: &[u16], count: usize) -> io::Result<()> 
 
 fn print_table<A: Alphabet>(rt: &HostRuntime, lines: &[&str]) -> io::Result<()> {
     let heap = rt.alloc();
-    let mut moves = vec![in heap; 0u16; 16384]?;
-    let mut sets = vec![in heap; 0u64; 512]?;
+    let mut moves = vec![in heap; 0u16; MOST_STATES * MOST_CLASSES]?;
+    let mut sets = vec![in heap; 0u64; MOST_STATES * MOST_LINES]?;
     match built::<A>(&mut moves, &mut sets, lines) {
         Ok(states) => println!(rt; "states {states}")?,
         Err(refusal) => println!(rt; "refused {}", refusal.number())?,
     }
     print_sets(rt, &sets)?;
-    print_moves(rt, &moves, A::classes())
+    print_moves::<A>(rt, &moves)
 }
 
 fn main(rt: HostRuntime) -> io::Result<()> {
     let heap = rt.alloc();
     let text = io::read_to_string(heap, rt.stdin())?;
     let mut lines = Vec::new(heap);
-    let mut pieces = false;
+    let mut kind = Kind::Bytes;
     for line in text.as_str().lines() {
         match line {
             "" => {
-                if pieces {
-                    print_table::<Piece>(&rt, &lines)?;
-                } else {
-                    print_table::<u8>(&rt, &lines)?;
+                match kind {
+                    Kind::Bytes => print_table::<u8>(&rt, &lines)?,
+                    Kind::Pieces => print_table::<Piece>(&rt, &lines)?,
                 }
                 lines.clear();
             }
-            "bytes" => pieces = false,
-            "pieces" => pieces = true,
+            "bytes" => kind = Kind::Bytes,
+            "pieces" => kind = Kind::Pieces,
             _ => lines.push(line)?,
         }
     }
