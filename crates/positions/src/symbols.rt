@@ -6,7 +6,7 @@ use meaning::Symbol;
 use std::array;
 
 // The symbols of a line, which stand in the first `len` places of the array.
-// Stays: an array with its count. The engine has no heap, and the kit's `ArrayVec` cannot be copied, as a line's record in a plate's table is.
+// Stays: an array with its count. The engine has no heap, and a draft and a line's sets can be copied, as the kit's `ArrayVec` cannot.
 #[derive(Clone, Copy)]
 pub(crate) struct Symbols {
     len: usize,

@@ -11,7 +11,7 @@ use positions::{Draft, MOST_BYTES, Sets};
 // A line as a plate keeps it: its text, its two codes, its symbols and its position sets.
 #[derive(Clone, Copy)]
 pub struct Entry {
-    // Stays: an array with its length. A line's record has a fixed size, with no heap, and is copied whole, as an `ArrayVec` cannot be; an `ArrayString` holds no bytes but UTF-8.
+    // Stays: an array with its length. A line's record has a fixed size, with no heap, and can be copied, as an `ArrayVec` cannot; an `ArrayString` holds no bytes but UTF-8.
     text: [u8; MOST_BYTES],
     len: usize,
     opening: u16,
