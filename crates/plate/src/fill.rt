@@ -28,6 +28,7 @@ impl Desk {
     }
 
     // The move cells of one state, and numbers for the states that its moves meet; none where these are too many.
+    // Stays: which cells a step may change is a clause of each, since what holds before and after can be no invariant of a desk.
     fn fill_row(&self, moves: &mut [u16], numbering: &mut Numbering, s: usize) -> Option<()>
         requires room { 64 * self.now.count ≤ length moves.old }
         requires known { s < length (met_of numbering.old) }

@@ -10,6 +10,7 @@ use crate::open::Plate;
 use positions::{MOST_LINES, MOST_STATES};
 use sheet::{Alphabet, Refusal};
 
+// Stays: that cells or memory are as before is a clause of each call, since what holds before and after can be no invariant of a plate.
 impl<'m> Plate<'m> {
     // The check before an opening: whether the memory has the cells that a plate uses.
     pub fn check<A: Alphabet>(moves: &[u16], sets: &[u64]) -> Result<(), Refusal>

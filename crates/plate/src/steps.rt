@@ -9,6 +9,7 @@ ghost use Rattle.plate.specs.Tables.{Earliest};
 use crate::desk::Desk;
 use crate::numbering::{NOWHERE, State};
 
+// Stays: the meant lines are no value of the program, so no ghost field can hold them, and each clause is over any `ls` that the texts write.
 impl Desk {
     // The first sets of the standing lines.
     pub(crate) fn start(&self) -> State

@@ -8,6 +8,7 @@ ghost use Rattle.positions.specs.Taking.{TakesLowest};
 use crate::limits::*;
 
 // Whether a set has the position p + 1.
+// Stays: `p < 64` here and where rows are added to; a type for it would be made and unmade at each use.
 pub(crate) fn has(set: u64, p: usize) -> bool
     requires { p < 64 }
     ensures { result ≡ in_set set (p + 1) }

@@ -58,6 +58,7 @@ struct Reader<'t> {
     ghost counted: { classes ≤ 256 },
 }
 
+// Stays: that a step goes `Onward` is a clause of each, since what holds of a reader before and after can be no invariant of it.
 impl Reader<'_> {
     ghost use Rattle.std.specs.Prelude.{◌≡◌, IsSome};
     ghost use Rattle.sheet.specs.Parsing.{ReadsLine};
