@@ -128,6 +128,7 @@ fn refused_tests(rt: HostRuntime) -> Result<(), Fail> {
 }
 
 // what a cell of a list holds that no read wrote
+// Stays: a piece and no `None`, since the lists that `read` is lent are of pieces.
 const NOTHING: Piece = Piece {
     line: 99,
     place: 99,

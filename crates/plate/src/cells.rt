@@ -5,7 +5,7 @@ ghost use Rattle.meaning.specs.Runs.{cleared};
 use positions::{MOST_LINES, MOST_STATES};
 
 // Sets the cells that a plate uses to 0.
-// Stays: two slices and no struct of both, which would be made and taken apart at each call, with a clause that its references are the same; so these two bounds stand here and in fill.rt.
+// Stays: two slices. A struct of both would be made from a plate's fields at each call, with clauses that its memory is the plate's; so the bounds on each stand here and in fill.rt.
 pub(crate) fn clear(moves: &mut [u16], sets: &mut [u64], count: usize)
     requires moves { 64 * count ≤ length moves.old }
     requires sets { 512 ≤ length sets.old }

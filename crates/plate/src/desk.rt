@@ -10,7 +10,7 @@ pub type Accepts = [Option<usize>; MOST_STATES];
 #[derive(Clone, Copy)]
 pub struct Desk {
     // the records of the standing lines, in the order taken, and behind them those that were struck or blank
-    // Stays: an array with its count. A plate's lines are a table of records of fixed size in its plain inner struct, and a desk can be copied, as an `ArrayVec` cannot.
+    // Stays: an array with its count, since it is a rule that a plate's lines are a table of records in its plain inner struct, of which take fills one (docs/DECISIONS.md).
     pub entries: [Entry; MOST_LINES],
     // how many of them stand
     pub standing: usize,

@@ -20,7 +20,7 @@ impl Desk {
         ensures { (ls : List Line) → Mean (texts_of self.now) ls → (s : ℕ) → s < length (met_of numbering.now) → Earliest ls (slice_index_or (met_of numbering.now) s nowhere) (slice_index_or result s None) }
     {
         let mut accepts = [None; MOST_STATES];
-        // Stays: written by place, since with `array::from_fn` the proof did not learn what a closure with a `match` answers.
+        // Stays: written by place; `array::from_fn` would want a closure with a contract of its own, which is no plainer.
         for (s, state) in numbering.states.iter().enumerate() {
             accepts[s] = self.accepting(*state);
         }
@@ -57,7 +57,7 @@ impl Desk {
         ensures beyond { Beyond (64 * self.now.count) moves.old moves.new }
     {
         let mut numbering = Numbering::new(self.start());
-        // The states become more while they are gone through, so each turn asks whether there is one.
+        // Stays: the states become more while they are gone through, so no `for` can walk over them; this one goes to the most that there can be.
         for s in 0..MOST_STATES {
             if s >= numbering.states.len() {
                 break;

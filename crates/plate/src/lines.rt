@@ -33,7 +33,7 @@ impl Desk {
     }
 
     // Refuses a call of another count than the plate's.
-    // Stays: that this refusal comes first is a clause `away` of each call, since each answers a `Result` of its own.
+    // Stays: that this refusal comes first is the clause `away` of each call; a name for it would be no shorter than the clause.
     pub(crate) fn hears<A: Alphabet>(&self) -> Result<(), Refusal>
         ensures { MatchResult result (λ _. self.now.count ≡ A.COUNT) (λ f. (f ≡ Refusal.NotOpen) × (self.now.count ≢ A.COUNT)) }
     {

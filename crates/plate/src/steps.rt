@@ -16,8 +16,8 @@ impl Desk {
         ensures { (ls : List Line) → Mean (texts_of self.now) ls → result ≡ start ls }
     {
         let mut state = NOWHERE;
-        // Stays: written by place. After a loop over `state.iter_mut().zip(..)` the proof does not know what the state holds, and `array::from_fn` wants a closure with a `match`, whose
-        // answers it did not learn.
+        // Stays: written by place, since after a loop over `state.iter_mut().zip(..)` the proof does not know what the state holds; `array::from_fn` would want a closure with a contract of
+        // its own, which is no plainer.
         for (k, entry) in self.lines().iter().enumerate() {
             state[k] = entry.first();
         }

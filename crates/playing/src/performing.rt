@@ -16,7 +16,7 @@ use reading::{Why, longest};
 use sheet::{Alphabet, Entry, Refusal};
 
 // Gives the codes of a word of the line to the doer, in order, until one is turned away; answers how many it took.
-// Stays: a count and no `Result`, since where a piece is broken this count is what `play` answers.
+// Stays: a count and no `Result<(), usize>`, since the definition `Offered` is over how many were taken, of whole words too.
 fn give_word<A: Alphabet, D: Doer>(line: &Entry, word: &[A], doer: &mut D) -> usize
     requires { length word.now ≤ 32768 }
     ensures { (l : Line) (w : Word) → Means (text_of line.now) l → Of l.expr w → classes w ≡ seen A.classed word.now → Offered D.rule (D.state doer.old) (gives l w) result (D.state doer.new) }

@@ -31,6 +31,7 @@ impl Iterator for Positions {
         if self.0 == 0 {
             return None;
         }
+        // Stays: `as`, since no `usize::from` takes a u32; the number is at most 64.
         let p = self.0.trailing_zeros() as usize;
         self.0 &= self.0 - 1;
         Some(p)

@@ -71,6 +71,7 @@ impl Sets {
     {
         let fit = self.fitting(set, class);
         let symbols = self.symbols.as_slice();
+        // Stays: `as`, since no `usize::from` takes a u32; the number is at most 64.
         symbols
             .get(fit.trailing_zeros() as usize)
             .map_or(0, |symbol| symbol.code)

@@ -6,7 +6,7 @@ use meaning::Symbol;
 use std::array;
 
 // The symbols of a line, which stand in the first `len` places of the array.
-// Stays: an array with its count. The engine has no heap, and a draft and a line's sets can be copied, as the kit's `ArrayVec` cannot.
+// Stays: an array with its count. `Draft`, `Sets` and `Entry` are copied, as in `[Entry::blank(); MOST_LINES]`, which the kit's `ArrayVec` cannot be, and the engine has no heap for a `Vec`.
 #[derive(Clone, Copy)]
 pub(crate) struct Symbols {
     len: usize,

@@ -83,7 +83,7 @@ pub fn read<A: Alphabet>(
 {
     plate.ready(extent)?;
     // Stays: `place` moves by the length of the piece just found, and `play` walks so too; an iterator over the pieces would have to tell why it ended, which each loop says where it
-    // returns. A cell of the list is written by its index, since after a write through `get_mut` the proof knew none of its pieces.
+    // returns. The list is lent memory, so how many cells are written stands beside it; a cell is written by its index, since after a write through `get_mut` the proof knew no piece.
     let mut listed = 0;
     let mut place = 0;
     while place < extent.len() {

@@ -33,6 +33,7 @@ fn write_codes<A: Alphabet>(line: &Entry, extent: &[A], codes: &mut [u16])
 {
     codes[0] = line.open();
     let mut set = line.first();
+    // Stays: written by place, since after a loop over `codes[1..].iter_mut().zip(extent)` the proof does not know what the cells hold.
     for (i, symbol) in extent.iter().enumerate() {
         let class = symbol.class();
         codes[i + 1] = line.code(set, class);

@@ -26,6 +26,7 @@ const UNWRITTEN: Piece = Piece {
 };
 
 // The number that a word is, at most `most`, or 0.
+// Stays: 0 and no `None`, since a line with a word that is no number makes its call all the same.
 fn number(word: &str, most: usize) -> usize
     ensures { result ≤ most }
 {

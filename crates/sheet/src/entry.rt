@@ -31,6 +31,7 @@ fn copied(text: &[u8]) -> [u8; MOST_BYTES]
     copy
 }
 
+// Stays: the meant line is no value of the program, so no ghost field can hold it, and each clause is over any `l` that the text means.
 impl Entry {
     ghost use Rattle.meaning.specs.Positions.{has, first_set, end_mark, move, symbol_at};
     ghost use Rattle.meaning.specs.Runs.{Means, TextAccepted, TextRefused};

@@ -106,6 +106,7 @@ impl Reader<'_> {
     {
         let digit = self.next()?.to_digit(10)?;
         self.pass();
+        // Stays: `as`, since no `usize::from` takes a u32; a digit is below 10.
         Some(digit as usize)
     }
 

@@ -24,7 +24,7 @@ pub enum Refusal {
 }
 
 impl Refusal {
-    // Stays: number and layer are what users and programs are told (docs/REFUSALS.md), and no derive gives them, since cases carry details.
+    // Stays: number, layer and details, here and in the next two, are what users and programs are told (docs/REFUSALS.md); no derive gives them.
     pub fn number(&self) -> u8
         ensures { result ≡ (reported self.now).number }
     {
