@@ -31,7 +31,7 @@ impl Parsed {
     ghost use Rattle.sheet.specs.Parsing.{Parses};
 
     // Reads a whole text.
-    pub fn read(text: &[u8], classes: usize) -> Result<Self, Refusal>
+    pub(crate) fn read(text: &[u8], classes: usize) -> Result<Self, Refusal>
         requires { classes ≤ 256 }
         ensures { Parses classes text.now result }
     {
