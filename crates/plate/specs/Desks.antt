@@ -1,6 +1,5 @@
 -- What a plate's desk stands for: the account of its calls. Assumes nothing.
-use Rattle.std.specs.Prelude.{ℕ, Bool, List, [], map, take, Option, Ok, Err, Result, is_some}
-use Rattle.std.specs.Option.{unwrap_or}
+use Rattle.std.specs.Prelude.{ℕ, Bool, List, map, take, Option, Ok, Err, Result}
 use Rattle.meaning.specs.Doers.{Given}
 use Rattle.meaning.specs.Runs.{Account, Answer, refused, numbered}
 use Rattle.sheet.specs.declared.refusal.Refusal.{Refusal}
@@ -14,11 +13,11 @@ texts_of d = map text_of (take d.standing d.entries)
 
 -- whether the plate is built
 abbrev pub is_built : Desk → Bool
-is_built d = is_some d.accepts
+is_built d = d.built
 
--- for each state of a built plate, the line that is taken there; none at all where the plate is not built
+-- for each state of the table that was built last, the line that is taken there
 abbrev pub accepts_of : Desk → List (Option ℕ)
-accepts_of d = unwrap_or d.accepts []
+accepts_of d = d.accepts
 
 -- what is known of a plate with these cells, whose doer was given `history`
 abbrev pub account_of : Desk → (moves sets : List ℕ) → (history : List Given) → Account

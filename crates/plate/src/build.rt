@@ -22,9 +22,10 @@ impl Plate<'_> {
         if self.desk.standing == 0 {
             return Err(Refusal::NoLine);
         }
-        self.desk.accepts = None;
+        self.desk.built = false;
         let (met, accepts) = self.desk.fill(self.moves, self.sets)?;
-        self.desk.accepts = Some(accepts);
+        self.desk.accepts = accepts;
+        self.desk.built = true;
         Ok(met)
     }
 }

@@ -4,7 +4,7 @@ ghost use Rattle.std.specs.Prelude.{◌≡◌, ◌≤◌, length};
 use positions::{MOST_LINES, MOST_STATES};
 use sheet::Entry;
 
-// For each state of a built plate, the earliest line that has a word there.
+// For each state, the earliest line that has a word there.
 pub type Accepts = [Option<usize>; MOST_STATES];
 
 #[derive(Clone, Copy)]
@@ -17,8 +17,11 @@ pub struct Desk {
     // the count of the alphabet that the plate was opened for, 0 on a shut plate
     // Stays: a shut plate has no class, so one comparison refuses it as it does any other count, and the bounds on cells need no case.
     pub count: usize,
-    // none where the plate is not built
-    pub accepts: Option<Accepts>,
+    // Stays: a flag, and no `Option` of what follows. A read asks for the accepting line at each symbol and would ask each time whether there is one; and what `Plate::accepts` answers for
+    // the states of a table that no longer counts would be another.
+    pub built: bool,
+    // those of the table that was built last
+    pub accepts: Accepts,
     ghost few: { standing ≤ 8 },
     ghost counted: { count ≤ 256 },
     ghost full: { length entries ≡ 8 },

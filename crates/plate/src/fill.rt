@@ -15,11 +15,11 @@ use positions::{MOST_LINES, MOST_STATES};
 use sheet::Refusal;
 
 impl Desk {
-    // For each state that has a number, the line that is taken there.
+    // For each state that has a number, the line that is taken there, and behind them what was known before.
     fn accepting_lines(&self, numbering: &Numbering) -> Accepts
         ensures { (ls : List Line) → Mean (texts_of self.now) ls → (s : ℕ) → s < length (met_of numbering.now) → Earliest ls (slice_index_or (met_of numbering.now) s nowhere) (slice_index_or result s None) }
     {
-        let mut accepts = [None; MOST_STATES];
+        let mut accepts = self.accepts;
         // Stays: written by place; `array::from_fn` would want a closure with a contract of its own, which is no plainer.
         for (s, state) in numbering.states.iter().enumerate() {
             accepts[s] = self.accepting(*state);
@@ -98,9 +98,12 @@ impl Numbering {
         requires { 512 ≤ length sets.old }
         ensures { Laid (met_of self.now) (length (met_of self.now)) sets.old sets.new }
     {
-        // Stays: written by place, since after a loop over `sets.chunks_exact_mut(..)` the proof does not know what the cells hold.
+        // Stays: written by place, since after a loop over `sets.chunks_exact_mut(..)` the proof does not know what the cells hold, and cell by cell, so that the contract is seen to ask for each
+        // line's own cell (docs/PLANTED.md, `other_lines_slot`).
         for (s, state) in self.states.iter().enumerate() {
-            sets[s * MOST_LINES..(s + 1) * MOST_LINES].copy_from_slice(state);
+            for (k, set) in state.iter().enumerate() {
+                sets[s * MOST_LINES + k] = *set;
+            }
         }
     }
 }

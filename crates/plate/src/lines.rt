@@ -5,7 +5,7 @@ ghost use Rattle.meaning.specs.Runs.{Taken, Struck};
 ghost use Rattle.plate.specs.Desks.{account_of, answer_of, is_built};
 
 use crate::desk::Desk;
-use positions::MOST_LINES;
+use positions::{MOST_LINES, MOST_STATES};
 use sheet::{Alphabet, Entry, Refusal};
 
 impl Desk {
@@ -20,7 +20,8 @@ impl Desk {
             entries: [Entry::blank(); MOST_LINES],
             standing: 0,
             count,
-            accepts: None,
+            built: false,
+            accepts: [None; MOST_STATES],
         }
     }
 
@@ -59,7 +60,7 @@ impl Desk {
         let entry = Entry::read::<A>(line)?;
         self.entries[place] = entry;
         self.standing = place + 1;
-        self.accepts = None; // the table does not have the line
+        self.built = false; // the table does not have the line
         Ok(place)
     }
 
@@ -75,7 +76,7 @@ impl Desk {
             return Err(Refusal::NoLine);
         }
         self.standing -= 1;
-        self.accepts = None;
+        self.built = false;
         Ok(self.standing)
     }
 }

@@ -13,7 +13,7 @@ impl Plate<'_> {
         ensures { MatchResult result (λ _. (self.now.desk.count ≡ A.COUNT) × (is_built self.now.desk ≡ true) × (length extent.now ≤ 32768)) (λ f. Unready A.COUNT self.now.desk (length extent.now) f) }
     {
         self.desk.hears::<A>()?;
-        if self.desk.accepts.is_none() {
+        if !self.desk.built {
             return Err(Refusal::NotBuilt);
         }
         if extent.len() > LONGEST_EXTENT {
@@ -30,7 +30,11 @@ impl Plate<'_> {
         if state >= MOST_STATES || class >= self.desk.count {
             return None;
         }
-        usize::from(self.moves[state * self.desk.count + class]).checked_sub(1)
+        // Stays: a match, and no `checked_sub(1)`, whose subtraction with a carry every step of a read or play would wait for.
+        match self.moves[state * self.desk.count + class] {
+            0 => None,
+            cell => Some(usize::from(cell) - 1),
+        }
     }
 
     // The earliest line that has a word in a state.
@@ -38,7 +42,7 @@ impl Plate<'_> {
         ensures inside { state < 64 → result ≡ slice_index_or (accepts_of self.now.desk) state None }
         ensures outside { 64 ≤ state → result ≡ None }
     {
-        *self.desk.accepts.as_ref()?.get(state)?
+        *self.desk.accepts.get(state)?
     }
 
     // A standing line.

@@ -10,6 +10,7 @@ pub mod Lowbit
 pub mod Unions
 pub mod Marking
 pub mod Ranges
+pub mod RangeMarks
 pub mod Adding
 pub mod Chasing
 pub mod Walking

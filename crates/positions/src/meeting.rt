@@ -69,7 +69,8 @@ impl Sets {
         let symbols = self.symbols.as_slice();
         let known = self.all_meetings(&self.symbols.overlaps());
         for (p, a) in symbols.iter().enumerate() {
-            for (q, b) in symbols.iter().enumerate().skip(p + 1) {
+            for (i, b) in symbols[p + 1..].iter().enumerate() {
+                let q = p + 1 + i;
                 if has(known[p], q) && a.code != b.code {
                     return Some((p + 1, q + 1));
                 }

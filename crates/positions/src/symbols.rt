@@ -1,5 +1,5 @@
 ghost use Rattle.std.specs.Prelude.{◌≡◌, ◌≤◌, ◌↔◌, true};
-ghost use Rattle.positions.specs.Ranges.{Shared};
+ghost use Rattle.positions.specs.Ranges.{Shared, RangeMarked};
 
 use crate::limits::*;
 use meaning::Symbol;
@@ -71,16 +71,14 @@ impl Symbols {
     }
 
     // For each class, the positions whose ranges hold it.
-    // Stays: `as`, since a class is below 256.
     pub(crate) fn class_masks(&self) -> [u64; MOST_CLASSES]
         ensures { ClassMasks (held self.now) result }
     {
-        array::from_fn(
-            |class|
-                requires { class < 256 }
-                ensures { Overlapping (held self.entry.now) class class result }
-            { self.overlapping(class as u16, class as u16) },
-        )
+        let mut masks = [0; MOST_CLASSES];
+        for (p, symbol) in self.as_slice().iter().enumerate() {
+            mark(&mut masks, symbol, 1 << p);
+        }
+        masks
     }
 
     // For each position, those whose ranges overlap its own.
@@ -107,4 +105,15 @@ fn overlap(symbol: &Symbol, low: u16, high: u16) -> bool
 {
     let start = symbol.low.max(low);
     start <= symbol.high && start <= high
+}
+
+// Adds positions to the sets of the classes in the symbol's range.
+// Stays: by index, from class to class of the range alone, since a walk over all classes for each symbol costs the more the narrower the ranges are.
+fn mark(masks: &mut [u64; MOST_CLASSES], symbol: &Symbol, positions: u64)
+    ensures { RangeMarked symbol.now positions masks.old masks.new }
+{
+    let end = MOST_CLASSES.min(usize::from(symbol.high) + 1);
+    for class in usize::from(symbol.low)..end {
+        masks[class] |= positions;
+    }
 }

@@ -9,9 +9,8 @@ use Rattle.meaning.specs.Runs.{Refusal, plain, Answer, answer_no, Account, fresh
 use Rattle.meaning.specs.Asked.{Asked, ask_take, ask_strike, ask_build, ask_read, ask_play, gathered, Reply, no_for, told}
 use Rattle.sheet.specs.declared.refusal.Refusal.{Refusal as Declines}
 use Rattle.sheet.specs.declared.refusal.Refusal.TheVariants.{NotOpen}
-use Rattle.plate.specs.declared.open.Plate.{Plate}
+use Rattle.plate.specs.declared.desk.Desk.{Desk}
 use Rattle.plate.specs.Desks.{texts_of, account_of, answer_of, is_built}
-use Rattle.plate.specs.Plates.{account}
 use Rattle.reading.specs.declared.cutting.Why.{Why}
 use Rattle.reading.specs.Answers.{read_answer}
 use Rattle.playing.specs.Performances.{play_answer, Performed, refuses, performs}
@@ -83,16 +82,16 @@ read_listed list' (Ok (Played pieces place codes why)) h = elim h [ ]
 read_listed list' (Err f) h = append-nil list'
 
 -- a desk and cells that are as they were
-account_same : (p p' : Plate) (h : List Given) → p'.desk ≡ p.desk → p'.moves.now ≡ p.moves.now → p'.sets.now ≡ p.sets.now → account p' h ≡ account p h
-account_same p p' h d m s = cc
+account_same : (d d' : Desk) (moves moves' sets sets' : List ℕ) (h : List Given) → d' ≡ d → moves' ≡ moves → sets' ≡ sets → account_of d' moves' sets' h ≡ account_of d moves sets h
+account_same d d' moves moves' sets sets' h e m s = cc
 
 -- what holds of an account holds with equal cells
-pub with_cells : (P : Account → Type 0) (p p' : Plate) (h : List Given) → (p'.moves.now ≡ p.moves.now) × (p'.sets.now ≡ p.sets.now) → P (account_of p'.desk p.moves.now p.sets.now h) → P (account p' h)
-with_cells P p p' h (m, s) x = rw (m, s) x
+pub with_cells : (P : Account → Type 0) (d : Desk) (moves moves' sets sets' : List ℕ) (h : List Given) → (moves' ≡ moves) × (sets' ≡ sets) → P (account_of d moves sets h) → P (account_of d moves' sets' h)
+with_cells P d moves moves' sets sets' h (m, s) x = rw (m, s) x
 
 -- the account of a plate that was just opened
-pub account_fresh : (p : Plate) → texts_of p.desk ≡ [] → is_built p.desk ≡ false → account p [] ≡ fresh p.moves.now p.sets.now
-account_fresh p e b = cc
+pub account_fresh : (d : Desk) (moves sets : List ℕ) → texts_of d ≡ [] → is_built d ≡ false → account_of d moves sets [] ≡ fresh moves sets
+account_fresh d moves sets e b = cc
 
 module _ (count : ℕ) (some : 1 ≤ count) {S : Type 0} (rule : Rule S) (first : S) where
   -- on a plate of another count: refused 25, and nothing is changed
@@ -115,56 +114,56 @@ module _ (count : ℕ) (some : 1 ≤ count) {S : Type 0} (rule : Rule S) (first 
   made_heard n before after q list list' reply answer h t e step same_reply same_list led =
       record { answer = answer; history = h; called = heard (open_at n count some e) step; same_reply = same_reply; same_list = same_list; leads = led }
 
-  module _ (p p' : Plate) where
+  module _ (d d' : Desk) (moves moves' sets sets' : List ℕ) where
     -- refused 25: nothing is changed
     abbrev Unheard : Result ℕ Declines → Type 0
-    Unheard r = (p.desk.count ≡ count → ⊥) → (r ≡ Err NotOpen) × (p'.desk ≡ p.desk) × (p'.moves.now ≡ p.moves.now) × (p'.sets.now ≡ p.sets.now)
+    Unheard r = (d.count ≡ count → ⊥) → (r ≡ Err NotOpen) × (d' ≡ d) × (moves' ≡ moves) × (sets' ≡ sets)
 
     -- of a call that leaves the cells, and the desk where it is refused
-    pub unheard : (P : ℕ → Type 0) (r : Result ℕ Declines) → ((p.desk.count ≡ count → ⊥) → r ≡ Err NotOpen) → MatchResult r P (λ _. p'.desk ≡ p.desk)
-        → (p'.moves.now ≡ p.moves.now) × (p'.sets.now ≡ p.sets.now) → Unheard r
-    unheard P r not_heard kept cells n = (not_heard n, MatchResult-at_err P (λ _. p'.desk ≡ p.desk) NotOpen (not_heard n) kept, cells.0, cells.1)
+    pub unheard : (P : ℕ → Type 0) (r : Result ℕ Declines) → ((d.count ≡ count → ⊥) → r ≡ Err NotOpen) → MatchResult r P (λ _. d' ≡ d)
+        → (moves' ≡ moves) × (sets' ≡ sets) → Unheard r
+    unheard P r not_heard kept cells n = (not_heard n, MatchResult-at_err P (λ _. d' ≡ d) NotOpen (not_heard n) kept, cells.0, cells.1)
 
     -- a call whose answer is a number or a refusal
     pub numbered_made : (q : Asked) (list : List Piece) (answer : Result Tells Declines) (r : Result ℕ Declines) (h : List Given) (s : S) → answer ≡ result_map_both Number (λ e. e) r
-        → Left q list (answer_of r) list → Unheard r → (p.desk.count ≡ count → Step count rule first (account p h) (lent q list) (answer_of r) (account p' h))
-        → Leads rule first h s → Made count rule first p.desk.count (account p h) q list (reply_of answer) (account p') list s
+        → Left q list (answer_of r) list → Unheard r → (d.count ≡ count → Step count rule first (account_of d moves sets h) (lent q list) (answer_of r) (account_of d' moves' sets' h))
+        → Leads rule first h s → Made count rule first d.count (account_of d moves sets h) q list (reply_of answer) (account_of d' moves' sets') list s
     numbered_made q list answer r h s e left not_heard hears led =
-        ⊎_elim (λ here. made_heard p.desk.count _ (account p') q list list (reply_of answer) (answer_of r) h s here (hears here) (ap reply_of e ∙ told_number r) left led)
+        ⊎_elim (λ here. made_heard d.count _ (account_of d' moves' sets') q list list (reply_of answer) (answer_of r) h s here (hears here) (ap reply_of e ∙ told_number r) left led)
         (λ other.
         let (turned, kept, m, n) = not_heard other in
-        made_away p.desk.count _ (account p') q list list (reply_of answer) h s other (account_same p p' h kept m n) refl
+        made_away d.count _ (account_of d' moves' sets') q list list (reply_of answer) h s other (account_same d d' moves moves' sets sets' h kept m n) refl
         (ap reply_of e ∙ ap (λ x. reply_of (result_map_both Number (λ e. e) x)) turned) led)
-        (cases_eq p.desk.count count)
+        (cases_eq d.count count)
 
-  module _ (p : Plate) where
+  module _ (d : Desk) (moves sets : List ℕ) where
     -- a read changes only its list
     pub read_made : (extent : List ℕ) (room : ℕ) (list list' : List Piece) (answer : Result Tells Declines) (h : List Given) (s : S)
-        → ((p.desk.count ≡ count → ⊥) → (answer ≡ Err NotOpen) × (list' ≡ list)) → (p.desk.count ≡ count → Listed (account p h) extent list (with_list list' answer))
-        → Leads rule first h s → Made count rule first p.desk.count (account p h) (ask_read extent room) list (reply_of answer) (account p) list' s
+        → ((d.count ≡ count → ⊥) → (answer ≡ Err NotOpen) × (list' ≡ list)) → (d.count ≡ count → Listed (account_of d moves sets h) extent list (with_list list' answer))
+        → Leads rule first h s → Made count rule first d.count (account_of d moves sets h) (ask_read extent room) list (reply_of answer) (account_of d moves sets) list' s
     read_made extent room list list' answer h s not_heard hears led =
         ⊎_elim
-        (λ here. made_heard p.desk.count _ (account p) (ask_read extent room) list list' (reply_of answer) (with_list list' answer) h s here (reads (hears here)) (told_read list' answer)
+        (λ here. made_heard d.count _ (account_of d moves sets) (ask_read extent room) list list' (reply_of answer) (with_list list' answer) h s here (reads (hears here)) (told_read list' answer)
         (read_listed list' answer (hears here)) led)
-        (λ other. made_away p.desk.count _ (account p) (ask_read extent room) list list' (reply_of answer) h s other refl (not_heard other).1 (ap reply_of (not_heard other).0) led)
-        (cases_eq p.desk.count count)
+        (λ other. made_away d.count _ (account_of d moves sets) (ask_read extent room) list list' (reply_of answer) h s other refl (not_heard other).1 (ap reply_of (not_heard other).0) led)
+        (cases_eq d.count count)
 
     -- a play: refused, it changes nothing, and else it adds what it gave
-    performed : (extent : List ℕ) (list : List Piece) (answer : Answer) (h : List Given) (s t : S) → p.desk.count ≡ count → Performed rule (account p h) extent s answer t → Leads rule first h s
-        → Made count rule first p.desk.count (account p h) (ask_play extent) list (told answer) (account p) list t
+    performed : (extent : List ℕ) (list : List Piece) (answer : Answer) (h : List Given) (s t : S) → d.count ≡ count → Performed rule (account_of d moves sets h) extent s answer t → Leads rule first h s
+        → Made count rule first d.count (account_of d moves sets h) (ask_play extent) list (told answer) (account_of d moves sets) list t
     performed extent list answer h s t here (refuses why_not) led =
-        made_heard p.desk.count _ (account p) (ask_play extent) list list _ _ h s here (refuses_play why_not) refl (refl, refl) led
+        made_heard d.count _ (account_of d moves sets) (ask_play extent) list list _ _ h s here (refuses_play why_not) refl (refl, refl) led
     performed extent list answer h s t here (performs ls built short mean play) led =
-        made_heard p.desk.count _ (account p) (ask_play extent) list list _ _ _ t here (plays ls built short mean led play) refl (refl, refl) (leads_append _ led (play_leads _ play))
+        made_heard d.count _ (account_of d moves sets) (ask_play extent) list list _ _ _ t here (plays ls built short mean led play) refl (refl, refl) (leads_append _ led (play_leads _ play))
 
     pub play_made : (extent : List ℕ) (list : List Piece) (r : Result (ℕ × ℕ × ℕ × Why) Declines) (reply : Reply) (h : List Given) (s t : S) → reply ≡ told (play_answer r)
-        → ((p.desk.count ≡ count → ⊥) → (r ≡ Err NotOpen) × (t ≡ s)) → (p.desk.count ≡ count → Performed rule (account p h) extent s (play_answer r) t)
-        → Leads rule first h s → Made count rule first p.desk.count (account p h) (ask_play extent) list reply (account p) list t
+        → ((d.count ≡ count → ⊥) → (r ≡ Err NotOpen) × (t ≡ s)) → (d.count ≡ count → Performed rule (account_of d moves sets h) extent s (play_answer r) t)
+        → Leads rule first h s → Made count rule first d.count (account_of d moves sets h) (ask_play extent) list reply (account_of d moves sets) list t
     play_made extent list r reply h s t e not_heard hears led =
-        subst (λ x. Made count rule first p.desk.count (account p h) (ask_play extent) list x (account p) list t) (sym e)
+        subst (λ x. Made count rule first d.count (account_of d moves sets h) (ask_play extent) list x (account_of d moves sets) list t) (sym e)
         (⊎_elim (λ here. performed extent list (play_answer r) h s t here (hears here) led)
         (λ other.
         let (turned, still) = not_heard other in
-        made_away p.desk.count _ (account p) (ask_play extent) list list (told (play_answer r)) h t other refl refl (ap (λ x. told (play_answer x)) turned)
+        made_away d.count _ (account_of d moves sets) (ask_play extent) list list (told (play_answer r)) h t other refl refl (ap (λ x. told (play_answer x)) turned)
         (subst (λ x. Leads rule first h x) (sym still) led))
-        (cases_eq p.desk.count count))
+        (cases_eq d.count count))

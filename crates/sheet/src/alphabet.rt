@@ -13,6 +13,13 @@ pub trait Alphabet: Copy {
 
     ghost classed: { Self → ℕ };
 
+    // The count, as a call.
+    fn classes() -> usize
+        ensures { result ≡ COUNT }
+    {
+        Self::COUNT
+    }
+
     fn class(&self) -> usize
         ensures value { result ≡ classed self.now }
         ensures below { result < COUNT };

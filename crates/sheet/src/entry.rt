@@ -62,16 +62,16 @@ impl Entry {
         }
         let parsed = Parsed::read(text, A::COUNT)?;
         let sets = Sets::new(parsed.draft, parsed.part);
-        if let Some((p, q)) = sets.clash() {
-            return Err(Refusal::Clash { p, q });
+        match sets.clash() {
+            Some((p, q)) => Err(Refusal::Clash { p, q }),
+            None => Ok(Entry {
+                text: copied(text),
+                len: text.len(),
+                opening: parsed.opening,
+                closing: parsed.closing,
+                sets,
+            }),
         }
-        Ok(Entry {
-            text: copied(text),
-            len: text.len(),
-            opening: parsed.opening,
-            closing: parsed.closing,
-            sets,
-        })
     }
 
     pub fn open(&self) -> u16

@@ -13,7 +13,7 @@ loop-i-init g c =
     let p = c.open-plate.result in
     let start = c.open-plate.ensures.empty in (
       running_none g.A.Alphabet.COUNT g.D.Doer.rule (g.D.Doer.state c.args.doer.now) (plate_of p.desk.count) p.moves.now p.sets.now c.args.lists.now
-          (account p) (account_fresh p start.0 start.1),
+          (account p) (account_fresh p.desk p.moves.now p.sets.now start.0 start.1),
       refl {a = c.args.answers.now},
       refl {a = p.desk.count},
       (refl {a = p.moves.ghost_name}, refl {a = p.sets.ghost_name}),

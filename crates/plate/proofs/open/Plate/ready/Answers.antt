@@ -8,8 +8,8 @@ returns-in_err-hears g c =
     let e = c.in_err-hears.ensures in
     rw (p.1, p.2, e.0) (away e.1)
 
-pub returns-then-is_none : goal.returns-then-is_none
-returns-then-is_none g c = unbuilt c.in_ok-hears.ensures c.if-is_none.ensures
+pub returns-then-not-self : goal.returns-then-not-self
+returns-then-not-self g c = unbuilt c.in_ok-hears.ensures c.if-not-self.true
 
 pub returns-then-extent-gt-LONGEST_EXTENT : goal.returns-then-extent-gt-LONGEST_EXTENT
-returns-then-extent-gt-LONGEST_EXTENT g c = long c.in_ok-hears.ensures c.if-is_none.ensures c.if-extent-gt-LONGEST_EXTENT.true
+returns-then-extent-gt-LONGEST_EXTENT g c = long c.in_ok-hears.ensures c.if-not-self.false c.if-extent-gt-LONGEST_EXTENT.true

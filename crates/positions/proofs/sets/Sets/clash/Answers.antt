@@ -1,25 +1,21 @@
-use Rattle.std.proofs.Common.{◌≡◌, ℕ, ◌+◌, ◌<◌, ◌≤◌, true, List, length, get_or, sym, refl, ap, ◌∙◌, subst, inl, inr, arith}
+use Rattle.std.proofs.Common.{◌≡◌, ℕ, ◌+◌, ◌≤◌, true, List, length, get_or, sym, refl, ap, ◌∙◌, subst, inl, inr, arith}
 use Rattle.std.proofs.lemmas.Bool.{cases_eq, both_ways}
-use Rattle.std.proofs.lemmas.List.{length_push}
-use Rattle.std.proofs.lemmas.Iterator.Consumers.{YieldsList-turn, YieldsList-end}
 use Rattle.meaning.specs.declared.Symbol.{Symbol}
 use Rattle.meaning.specs.Words.{Line}
 use Rattle.meaning.specs.Positions.{has, no_symbol}
 use Rattle.positions.specs.Masks.{nth, LineSets}
 use Rattle.positions.specs.Of.{SetsOf}
 use Rattle.positions.specs.Meets.{Beside}
-use Rattle.positions.proofs.Alike.{Alike, RowAlike, RowsAlike}
-use Rattle.positions.proofs.Walking.{item_is, length-behind, walked}
+use Rattle.positions.proofs.Alike.{Alike, RowsAlike}
+use Rattle.positions.proofs.Walking.{behind, item_is, length-behind}
 use Rattle.positions.proofs.Marking.{at_is, nth_next}
 use Rattle.positions.proofs.Clashing.{none_found, first_found}
 use Rattle.positions.proofs.sets.Sets.clash.Goals as goal
-use Rattle.positions.proofs.sets.Sets.clash.Goals.{At-loop-p, In-Some, else-has-via-then-has+else-a-b, else-has-via-else-has}
+use Rattle.positions.proofs.sets.Sets.clash.Goals.{At-loop-p, At-loop-i, else-has-via-then-has+else-a-b, else-has-via-else-has}
 
--- the position that the inner walk is at
-item : (c : In-Some) → (c.in-Some.q ≡ c.loop-p.p + 1 + length c.loop-q.yielded) × (c.in-Some.q < length c.as_slice-symbols.result.now) × (c.in-Some.b.now ≡ get_or c.as_slice-symbols.result.now c.in-Some.q no_symbol)
-item c =
-    let symbols : List Symbol = c.as_slice-symbols.result.now in
-    item_is symbols (c.loop-p.p + 1) (length c.loop-q.yielded) c.in-Some.q c.in-Some.b.now no_symbol (YieldsList-turn (walked symbols (c.loop-p.p + 1) (cc) (cc) (cc)) c.loop-q.yielded _ c.loop-q.yielded_by _ _ (c.in-Some.q, c.in-Some.b) c.in-Some.is c.next.ensures.steps)
+-- what stands at the inner walk's index
+item : (c : At-loop-i) → get_or (behind c.as_slice-symbols.result.now (c.loop-p.p + 1)) c.loop-i.i no_symbol ≡ nth c.as_slice-symbols.result.now (c.loop-p.p + 1 + c.loop-i.i + 1)
+item c = item_is c.as_slice-symbols.result.now (c.loop-p.p + 1) c.loop-i.i no_symbol ∙ sym (nth_next c.as_slice-symbols.result.now (c.loop-p.p + 1 + c.loop-i.i))
 
 -- the line's sets, and the symbols that take a byte in common
 known_sets : (c : At-loop-p) (l : Line) → SetsOf l c.args.self.now
@@ -34,36 +30,36 @@ pub returns-then-a-b : goal.returns-then-a-b
 returns-then-a-b c l o =
     let symbols : List Symbol = c.as_slice-symbols.result.now in
     let known : List ℕ = c.all_meetings-known.result in
-    let (e, i, b) = item (goal.at.returns-then-a-b c).In-Some in
+    let q : ℕ = c.loop-p.p + 1 + c.loop-i.i in
+    let b = item (goal.at.returns-then-a-b c).At-loop-i in
     let (few, sets, overlaps) = known_sets (goal.at.returns-then-a-b c).At-loop-p l o in
-    first_found l symbols c.args.self.now.first c.args.self.now.follow few sets c.overlaps.result overlaps known c.all_meetings-known.ensures c.loop-p.p c.in-Some.q (omega arith) i
-    (ap (λ s. has s (c.in-Some.q + 1)) (at_is known c.loop-p.p (c.loop-p.p + 1) refl) ∙ sym c.has.ensures ∙ c.if-has.true)
-    (λ d. c.if-a-b.true (ap (λ s. s.code) (sym (nth_next symbols c.loop-p.p)) ∙ d ∙ ap (λ s. s.code) (nth_next symbols c.in-Some.q ∙ sym b))) c.loop-p.invariant (subst (RowAlike symbols known (c.loop-p.p + 1)) (sym e) c.loop-q.invariant)
+    first_found l symbols c.args.self.now.first c.args.self.now.follow few sets c.overlaps.result overlaps known c.all_meetings-known.ensures c.loop-p.p q (omega arith)
+    (omega (arith, length-behind symbols (c.loop-p.p + 1), c.loop-i-test.true))
+    (ap (λ s. has s (q + 1)) (at_is known c.loop-p.p (c.loop-p.p + 1) refl) ∙ sym c.has.ensures ∙ c.if-has.true)
+    (λ d. c.if-a-b.true (ap (λ s. s.code) (sym (nth_next symbols c.loop-p.p)) ∙ d ∙ ap (λ s. s.code) (sym b))) c.loop-p.invariant c.loop-i.invariant
 
-pub loop-q-preserved : goal.loop-q-preserved
-loop-q-preserved c q h k m =
+pub loop-i-preserved : goal.loop-i-preserved
+loop-i-preserved c q h k m =
     let symbols : List Symbol = c.as_slice-symbols.result.now in
     let known : List ℕ = c.all_meetings-known.result in
-    let (e, i, b) = item (goal.at.loop-q-preserved c).In-Some in
-    let long = length_push c.loop-q.yielded (c.in-Some.q, c.in-Some.b) in
-    elim (cases_eq q (c.in-Some.q + 1)) [
+    let j : ℕ = c.loop-p.p + 1 + c.loop-i.i in
+    let b = item (goal.at.loop-i-preserved c).At-loop-i in
+    elim (cases_eq q (j + 1)) [
       | inl x ↦
-          let at : nth symbols q ≡ c.in-Some.b.now = ap (nth symbols) x ∙ nth_next symbols c.in-Some.q ∙ sym b in
           elim c.else-has.branch [
-            | else-has-via-then-has+else-a-b w ↦ ap (λ s. s.code) (nth_next symbols c.loop-p.p) ∙ w.if-a-b.false ∙ ap (λ s. s.code) (sym at)
+            | else-has-via-then-has+else-a-b w ↦ ap (λ s. s.code) (nth_next symbols c.loop-p.p) ∙ w.if-a-b.false ∙ ap (λ s. s.code) (b ∙ ap (nth symbols) (sym x))
             | else-has-via-else-has w ↦
-                absurd (both_ways c.has.result w.if-has.false (c.has.ensures ∙ subst (λ j. has (get_or known c.loop-p.p 0) j ≡ true) x (ap (λ s. has s q) (sym (at_is known c.loop-p.p (c.loop-p.p + 1) refl)) ∙ m)))
+                absurd (both_ways c.has.result w.if-has.false (c.has.ensures ∙ subst (λ i. has (get_or known c.loop-p.p 0) i ≡ true) x (ap (λ s. has s q) (sym (at_is known c.loop-p.p (c.loop-p.p + 1) refl)) ∙ m)))
           ]
-      | inr x ↦ c.loop-q.invariant q h (omega arith) m
+      | inr x ↦ c.loop-i.invariant q h (omega arith) m
     ]
 
 pub loop-p-preserved : goal.loop-p-preserved
 loop-p-preserved c p h k q o l m =
     let symbols : List Symbol = c.as_slice-symbols.result.now in
-    let t = YieldsList-end (walked symbols (c.loop-p.p + 1) (cc) (cc) (cc)) c.loop-q.yielded _ c.loop-q.yielded_by _ _ c.in-None.is c.next.ensures.steps in
     let all = length-behind symbols (c.loop-p.p + 1) in
     elim (cases_eq p (c.loop-p.p + 1)) [
-      | inl x ↦ subst (λ j. Alike symbols c.all_meetings-known.result j q) (sym x) (c.loop-q.invariant q (omega arith) (omega (arith, t.1))) m
+      | inl x ↦ subst (λ j. Alike symbols c.all_meetings-known.result j q) (sym x) (c.loop-i.invariant q (omega arith) (omega (arith, all, c.loop-i-test.false))) m
       | inr x ↦ c.loop-p.invariant p h (omega arith) q o l m
     ]
 

@@ -27,7 +27,7 @@ invariant_of-result g c =
     record {
       some = not_empty c.is_empty.result _ c.is_empty.ensures c.if-is_empty.false;
       short = c.if-text-gt-MOST_BYTES.false;
-      is = ∣ (r.line, records c.COUNT.result c.args.text.now _ c.new-sets.result r c.copied.ensures s (c.in_default.ensures r.line s)) ∣₁;
+      is = ∣ (r.line, records c.COUNT.result c.args.text.now _ c.new-sets.result r c.copied.ensures s (c.in-None.ensures r.line s)) ∣₁;
     }
 
 pub returns-in-Some : goal.returns-in-Some
@@ -37,11 +37,11 @@ returns-in-Some g c =
     subst (λ n. TextRefused n c.args.text.now (record { number = 6; layer = 2; one = c.in-Some.p; two = c.in-Some.q })) c.COUNT.ensures
     (refused_clash c.COUNT.result c.args.text.now (not_empty c.is_empty.result _ c.is_empty.ensures c.if-is_empty.false) c.if-text-gt-MOST_BYTES.false r c.in-Some.p c.in-Some.q (c.in-Some.ensures r.line s))
 
-pub returns : goal.returns
-returns g c =
+pub returns-in-None : goal.returns-in-None
+returns-in-None g c =
     let r = c.in_ok-parsed.ensures in
     let s = c.new-sets.ensures r.line r.drafted in (
       c.copied.ensures,
       subst (λ n. TextAccepted n c.args.text.now) c.COUNT.ensures
-          (accepted c.COUNT.result c.args.text.now (not_empty c.is_empty.result _ c.is_empty.ensures c.if-is_empty.false) c.if-text-gt-MOST_BYTES.false r (c.in_default.ensures r.line s)),
+          (accepted c.COUNT.result c.args.text.now (not_empty c.is_empty.result _ c.is_empty.ensures c.if-is_empty.false) c.if-text-gt-MOST_BYTES.false r (c.in-None.ensures r.line s)),
     )
