@@ -108,7 +108,8 @@ fn overlap(symbol: &Symbol, low: u16, high: u16) -> bool
 }
 
 // Adds positions to the sets of the classes in the symbol's range.
-// Stays: by index, from class to class of the range alone, since a walk over all classes for each symbol costs the more the narrower the ranges are.
+// Stays: by index, over the classes of the range alone, since a walk over all of them for each symbol costs the more the narrower the ranges are. A part of the slice would have to be cut
+// first, and the draft takes symbols whose ends are the wrong way round.
 fn mark(masks: &mut [u64; MOST_CLASSES], symbol: &Symbol, positions: u64)
     ensures { RangeMarked symbol.now positions masks.old masks.new }
 {
