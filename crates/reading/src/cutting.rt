@@ -59,7 +59,7 @@ pub fn longest<A: Alphabet>(plate: &Plate, extent: &[A], place: usize) -> Option
     let mut best = None;
     for (before, symbol) in rest.iter().enumerate() {
         let Some(next) = plate.next(state, symbol.class()) else {
-            break;
+            return best;
         };
         state = next;
         if let Some(line) = plate.accepts(state) {

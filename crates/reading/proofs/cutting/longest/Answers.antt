@@ -1,7 +1,8 @@
-use Rattle.std.proofs.Common.{◌≡◌, ◌+◌, ◌<◌, ◌≤◌, [], ◌∷◌, ◌++◌, length, take, drop, refl, sym, subst, ◌∙◌, arith}
+use Rattle.std.proofs.Common.{◌≡◌, ◌+◌, ◌<◌, ◌≤◌, [], ◌∷◌, ◌++◌, length, take, drop, refl, sym, subst, ◌∙◌, arith, rules, IfSome, MatchOption}
 use lib.ListN.{length-map}
 use Rattle.std.proofs.lemmas.List.{take_rest}
 use Rattle.meaning.specs.Alphabets.{seen}
+use Rattle.meaning.specs.Pieces.{Cut, NothingAt}
 use Rattle.plate.proofs.Walking.{lines_clear}
 use Rattle.reading.proofs.Best.{best_end, best_found}
 use Rattle.reading.proofs.Classes.{next_class}
@@ -49,8 +50,8 @@ loop-before-preserved g c =
           ],
     )
 
-pub returns-after-loop-before : goal.returns-after-loop-before
-returns-after-loop-before g c =
+pub returns : goal.returns
+returns g c =
     let n = c.loop-before.before in record {
       within = within_all c.args.place n (length c.args.extent.now) c.loop-before.best (omega (arith, c.in_ok-rest.ensures.lookup)) c.loop-before.invariant.0;
       cut = λ e b ls m. best_found ls _ c.args.place c.loop-before.best (lines_clear c.args.plate.now.desk ls m)
@@ -58,16 +59,21 @@ returns-after-loop-before g c =
           (omega (arith, c.in_ok-rest.ensures.lookup, c.loop-before-test.false, length-map c.args.extent.now g.A.Alphabet.classed)) (c.loop-before.invariant.1 e b ls m).1);
     }
 
+-- what is answered there is the best that was found
 pub returns-in_default : goal.returns-in_default
 returns-in_default g c =
     let p = c.args.plate.now in
     let xs = seen g.A.Alphabet.classed c.args.extent.now in
+    let place = c.args.place in
+    let best = c.loop-before.best in
     let n = c.loop-before.before in record {
-      within = within_all c.args.place n (length c.args.extent.now) c.loop-before.best (omega (arith, c.in_ok-rest.ensures.lookup)) c.loop-before.invariant.0;
+      within = subst (λ r. IfSome r (λ q. (q.place ≡ place) × (0 < q.len) × (place + q.len ≤ length c.args.extent.now))) (search rules)
+          (within_all place n (length c.args.extent.now) best (omega (arith, c.in_ok-rest.ensures.lookup)) c.loop-before.invariant.0);
       cut = λ e b ls m.
           let a = c.loop-before.invariant.1 e b ls m in
           let below : c.class.result < p.desk.count = omega (arith, c.class.ensures.below, e) in
-          best_found ls xs c.args.place c.loop-before.best (lines_clear p.desk ls m)
-          (looked_lost p ls xs c.args.place m b n c.loop-before.state c.class.result c.loop-before.best a below (next g (goal.at.returns-in_default g c).After-class)
-          (c.in_default.ensures.inside (looked_below p ls xs c.args.place m b n c.loop-before.state c.loop-before.best a) below));
+          subst (λ r. MatchOption r (NothingAt ls xs place) (λ q. Cut ls xs place q.line q.len)) (search rules)
+          (best_found ls xs place best (lines_clear p.desk ls m)
+          (looked_lost p ls xs place m b n c.loop-before.state c.class.result best a below (next g (goal.at.returns-in_default g c).After-class)
+          (c.in_default.ensures.inside (looked_below p ls xs place m b n c.loop-before.state best a) below)));
     }
