@@ -1,7 +1,7 @@
-// Memory that is too small, shut plates, and plates of another alphabet.
+// Memory that is too small, shut plates, plates of another alphabet, and what is known of a table that no longer counts.
 use crate::memory::{MOVES, PIECE_MOVES, SETS};
 use plate::Plate;
-use reading::Piece;
+use reading::{Piece, longest};
 use sheet::Refusal;
 
 const LINE: &[u8] = b"(rule 0 0 (sym 0 8 0))";
@@ -71,4 +71,37 @@ fn other_alphabet(rt: HostRuntime) {
     assert_eq!(rt; plate.take::<Piece>(LINE), Ok(0));
     assert_eq!(rt; plate.build::<u8>(), Err(Refusal::NotOpen));
     assert_eq!(rt; plate.build::<Piece>(), Ok(2));
+}
+
+const A: &[u8] = b"(rule 0 0 (sym 97 97 0))";
+
+const ABCD: &[u8] = b"(rule 0 0 (seq (sym 97 97 0) (sym 98 98 0) (sym 99 99 0) (sym 100 100 0)))";
+
+// Where a plate is not built, and at states behind those of its table, the answers are those of the last table that had the state.
+#[test]
+fn last_table(rt: HostRuntime) {
+    let one = Piece {
+        line: 0,
+        place: 0,
+        len: 1,
+    };
+    let mut moves = [0u16; MOVES];
+    let mut sets = [0u64; SETS];
+    let mut plate = Plate::open::<u8>(&mut moves, &mut sets);
+    assert_eq!(rt; plate.accepts(1), None);
+    assert_eq!(rt; plate.take::<u8>(A), Ok(0));
+    assert_eq!(rt; plate.build::<u8>(), Ok(2));
+    assert_eq!(rt; plate.take::<u8>(A), Ok(1));
+    assert_eq!(rt; plate.accepts(1), Some(0));
+    assert_eq!(rt; longest(&plate, b"a", 0), Some(one));
+    assert_eq!(rt; plate.strike::<u8>(), Ok(1));
+    assert_eq!(rt; plate.accepts(1), Some(0));
+    assert_eq!(rt; plate.strike::<u8>(), Ok(0));
+    assert_eq!(rt; plate.take::<u8>(ABCD), Ok(0));
+    assert_eq!(rt; plate.build::<u8>(), Ok(5));
+    assert_eq!(rt; plate.accepts(4), Some(0));
+    assert_eq!(rt; plate.strike::<u8>(), Ok(0));
+    assert_eq!(rt; plate.take::<u8>(A), Ok(0));
+    assert_eq!(rt; plate.build::<u8>(), Ok(2));
+    assert_eq!(rt; plate.accepts(4), Some(0));
 }
